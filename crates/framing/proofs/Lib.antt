@@ -1,0 +1,8 @@
+-- Laws of the formats, their shapes, frames and readings, each proved once over the format; and the proofs of the functions.
+pub mod FormatLaws
+pub mod FrameLaws
+pub mod HeadLaws
+pub mod Length
+pub mod ReadingLaws
+pub mod ShapeLaws
+pub mod StartLaws

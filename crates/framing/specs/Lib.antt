@@ -1,0 +1,6 @@
+-- What the contracts of `framing` cite: the formats, their shapes and frames, and the two readings of a line.
+pub mod Format
+pub mod Frame
+pub mod Private
+pub mod Reading
+pub mod Shape

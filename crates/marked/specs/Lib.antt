@@ -1,0 +1,2 @@
+-- The marked cases (docs/FORMATS.md, "Marked cases").
+pub mod Rows

@@ -1,0 +1,47 @@
+-- The marked cases: kinds of rows, the test that each row has to pass, and the table (docs/FORMATS.md, "Marked cases").
+use Prim.Native.Nat.{ℕ, _+_}
+use mathlib.Core.Path.{_≡_}
+use mathlib.Core.List.{List, [], _∷_, _++_}
+use lib.ListN.{length}
+use Rattle.checksum.specs.Fletcher.{fletcherOf}
+use Rattle.checksum.specs.Xor.{xorOf}
+use Rattle.framing.specs.declared.Scanned.the-variants.{Whole, Partial}
+use Rattle.framing.specs.Format.{formatOf}
+use Rattle.framing.specs.Shape.{scan}
+use Rattle.framing.specs.Reading.{Mode, ongoing, closing, read, framedCount, skippedCount, pendingCount}
+
+pub data Row : Type 0 where
+  -- these bytes of a format want n bytes
+  wants : ℕ → List ℕ → ℕ → Row
+  -- a reading of these bytes of a format has so many framed, skipped and pending
+  reads : Mode → ℕ → List ℕ → ℕ → ℕ → ℕ → Row
+  -- Fletcher's sums of these bytes, the plain one first
+  fletcher : List ℕ → ℕ → ℕ → Row
+  -- the exclusive or of these bytes
+  xor : List ℕ → ℕ → Row
+
+-- The test of a row. Bytes want n bytes if they are a proper start, and with any bytes more up to n a whole shape of n.
+abbrev pub Holds : Row → Type 0
+Holds (wants f xs n) =
+    (scan (formatOf f) xs ≡ Partial) × ((ys : List ℕ) → length xs + length ys ≡ n → scan (formatOf f) (xs ++ ys) ≡ Whole n)
+Holds (reads c f xs a s p) =
+    (framedCount (read c (formatOf f) xs) ≡ a) × (skippedCount (read c (formatOf f) xs) ≡ s) × (pendingCount (read c (formatOf f) xs) ≡ p)
+Holds (fletcher xs a b) = fletcherOf xs ≡ record { plain = a; weighted = b }
+Holds (xor xs x) = xorOf xs ≡ x
+
+-- every row holds
+abbrev pub All : List Row → Type 0
+All [] = Unit {0}
+All (r ∷ rs) = Holds r × All rs
+
+abbrev pub table : List Row
+table =
+    wants 1 (0x05 ∷ 0x02 ∷ 0x01 ∷ 0xFE ∷ []) 21  -- (a)
+    ∷ wants 1 (0x05 ∷ 0x02 ∷ 0x00 ∷ 0xFF ∷ []) 276  -- (b)
+    ∷ reads ongoing 1 (0x05 ∷ 0x02 ∷ 0x01 ∷ 0xFF ∷ []) 0 4 0  -- (c)
+    ∷ reads ongoing 1 (0x05 ∷ 0x05 ∷ 0x02 ∷ []) 0 1 2  -- (d)
+    ∷ reads ongoing 2 (0x42 ∷ 0x42 ∷ 0x46 ∷ []) 0 1 2  -- (e)
+    ∷ fletcher (0x42 ∷ 0x46 ∷ []) 136 202  -- (f)
+    ∷ xor (0x50 ∷ 0x4C ∷ 0x41 ∷ 0x52 ∷ 0x42 ∷ 0x2C ∷ 0x31 ∷ 0x32 ∷ 0x2E ∷ 0x33 ∷ 0x33 ∷ []) 0x4C  -- (k) PLARB,12.33
+    ∷ reads closing 3 (0x24 ∷ 0x2A ∷ 0x30 ∷ 0x30 ∷ 0x0D ∷ 0x0A ∷ []) 0 6 0  -- (l) $*00 CR LF
+    ∷ []
