@@ -17,6 +17,7 @@ use Rattle.framing.specs.declared.Found.the-variants.{Frame, Start, Neit
 use Rattle.framing.specs.Format.{Format}
 use Rattle.framing.specs.Shape.{scan, IsShape}
 use Rattle.framing.specs.Frame.{good, frontOf, front, IsFrame}
+use Rattle.framing.proofs.TestLaws.{true-of}
 use Rattle.framing.proofs.ShapeLaws.{Settled, stays, WholeIn, inside, whole-alone}
 
 -- ---- what a scan and a checksum come to
@@ -44,10 +45,6 @@ frontOf-frame f xs n (Whole k) q e = pick (good f (take k xs)) refl e
     pick false g p = let z : _≡_ {A = ℕ} 0 1 = cc in absurd (omega arith)
 frontOf-frame f xs n Partial q e = let z : _≡_ {A = ℕ} 0 1 = cc in absurd (omega arith)
 frontOf-frame f xs n (Broken r) q e = let z : _≡_ {A = ℕ} 0 1 = cc in absurd (omega arith)
-
-true-of : (t : Bool) → T t → t ≡ true
-true-of true h = refl
-true-of false h = absurd h
 
 -- A frame is a whole shape whose checksum is right.
 pub frame-means : (f : Format) (xs : List ℕ) → IsFrame f xs ↔ (IsShape f xs × T (good f xs))

@@ -6,3 +6,4 @@ pub mod Length
 pub mod ReadingLaws
 pub mod ShapeLaws
 pub mod StartLaws
+pub mod TestLaws

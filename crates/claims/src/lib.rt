@@ -1,0 +1,1 @@
+// Theorems about whole lists of calls; there is no code here.

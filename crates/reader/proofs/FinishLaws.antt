@@ -1,0 +1,92 @@
+-- The closing reading from its first step and that of the rest, its frames laid in a room. Assumes nothing.
+use Prim.Native.Nat.{ℕ, _+_, _-_, _≤_, _<_}
+use mathlib.Core.Path.{_≡_, refl, sym, ap, _∙_}
+use mathlib.Core.List.{List, [], _∷_, _++_, append-nil}
+use native.Mathlib.Omega.{arith}
+use lib.ListN.{length, take, drop, length-drop, drop-of-length-le}
+use lib.Seq.{paste, length-take-le, take-at, drop-at}
+use Rattle.framing.specs.declared.Reason.{Reason}
+use Rattle.framing.specs.declared.Reason.the-variants.{RanOut}
+use Rattle.framing.specs.declared.Found.{Found}
+use Rattle.framing.specs.declared.Found.the-variants.{Frame, Start, Neither}
+use Rattle.framing.specs.Format.{Format}
+use Rattle.framing.specs.Frame.{front}
+use Rattle.framing.specs.Reading.{closing, framed, skipped, read, joined}
+use Rattle.framing.proofs.ReadingLaws.{read-nil, closing-rest, balance}
+use Rattle.reader.specs.declared.walk.Walked.{Walked}
+use Rattle.reader.specs.Calls.{lay}
+use Rattle.reader.specs.Private.{frameLength, countsOf}
+use Rattle.reader.proofs.RoomLaws.{tail-part, lay-paste, lay-behind}
+use Rattle.reader.proofs.StepLaws.{Step, frame-inside, frame-step, skip-step, close-step, frames-most}
+
+-- what going through xs to the end answers and leaves
+abbrev pub Finished : Format → List ℕ → List ℕ → Walked → List ℕ → Type 0
+Finished f xs room w room′ = (w ≡ countsOf (read closing f xs)) × (room′ ≡ lay (joined (read closing f xs .events)) room)
+
+pub finish-none : (f : Format) (xs room : List ℕ) → length xs ≡ 0 → Finished f xs room (record { framed = 0; skipped = 0; frames = 0 }) room
+finish-none f [] room e = rw (read-nil closing f) (refl, refl)
+finish-none f (x ∷ xs) room e = absurd (omega arith)
+
+-- no number passes the bytes
+pub record Most (xs : List ℕ) (w : Walked) : Type 0 where
+  pub bytes : w .framed + w .skipped ≡ length xs
+  pub few : w .frames ≤ w .framed
+
+pub finished-most : (f : Format) (xs room room′ : List ℕ) (w : Walked) → Finished f xs room w room′ → Most xs w
+finished-most f xs room room′ w h =
+    rw (h .0)
+    (record {
+      bytes = omega (arith, balance closing f xs, ap length (closing-rest f xs));
+      few = frames-most closing f xs;
+    })
+
+pub length-frame : (f : Format) (xs : List ℕ) (n : ℕ) → n ≡ frameLength (front f xs) → (n ≡ 0 → ⊥) → front f xs ≡ Frame n
+length-frame f xs n e h = go (front f xs) e
+  where
+    go : (o : Found) → n ≡ frameLength o → o ≡ Frame n
+    go (Frame k) p = ap Frame (sym p)
+    go Start p = absurd (h p)
+    go (Neither r) p = absurd (h p)
+
+-- where no frame stands, a byte is skipped for some reason
+record Skips (f : Format) (xs : List ℕ) : Type 0 where
+  reason : Reason
+  step : Step closing f xs 1 (skipped reason)
+
+skips : (f : Format) (xs : List ℕ) → 0 < length xs → 0 ≡ frameLength (front f xs) → Skips f xs
+skips f [] h z = absurd (omega arith)
+skips f (x ∷ xs) h z = go (front f (x ∷ xs)) refl z
+  where
+    go : (o : Found) → front f (x ∷ xs) ≡ o → 0 ≡ frameLength o → Skips f (x ∷ xs)
+    go (Frame n) e p = let i = frame-inside f (x ∷ xs) n e in absurd (omega arith)
+    go Start e p = record { reason = RanOut; step = close-step f x xs e }
+    go (Neither r) e p = record { reason = r; step = skip-step closing f (x ∷ xs) r e }
+
+same : {a b c d e g : ℕ} → a ≡ b → c ≡ d → e ≡ g
+    → _≡_ {A = Walked} (record { framed = a; skipped = c; frames = e }) (record { framed = b; skipped = d; frames = g })
+same p q r = λ i. record { framed = p i; skipped = q i; frames = r i }
+
+module _ (f : Format) (xs room : List ℕ) (w : Walked) where
+  pub finish-skip : (room′ : List ℕ) → 0 < length xs → 0 ≡ frameLength (front f xs) → Finished f (take (length xs - 1) (drop 1 xs)) room w room′
+      → Finished f xs room (record { framed = w .framed; skipped = w .skipped + 1; frames = w .frames }) room′
+  finish-skip room′ h z rest =
+      let s = skips f xs h z in
+      let g : Finished f (drop 1 xs) room w room′ = rw (tail-part xs 1) at rest in
+      rw (s .step .reads, g .0) (same (omega arith) (omega arith) (omega arith), g .1)
+
+  pub finish-frame : (n : ℕ) (room₁ ys : List ℕ) → front f xs ≡ Frame n → room₁ ≡ paste room 0 (take n xs) (length (take n xs))
+      → Finished f (take (length xs - n) (drop n xs)) (take (length room₁ - n) (drop n room₁)) w ys
+      → Finished f xs room (record { framed = w .framed + n; skipped = w .skipped; frames = w .frames + 1 })
+      (take n room₁ ++ (ys ++ drop (length room₁ - n) (drop n room₁)))
+  finish-frame n room₁ ys e put rest =
+      let s = frame-step closing f xs n e in
+      let l : length (take n xs) ≡ n = length-take-le n xs (s .inside) in
+      let p : room₁ ≡ take n xs ++ drop (length (take n xs)) room = put ∙ lay-paste [] (take n xs) room 0 refl in
+      let back : drop n room₁ ≡ drop (length (take n xs)) room =
+      ap (drop n) p ∙ drop-at (take n xs) (drop (length (take n xs)) room) n l in
+      let fore : take n room₁ ≡ take n xs = ap (take n) p ∙ take-at (take n xs) (drop (length (take n xs)) room) n l in
+      let none : drop (length room₁ - n) (drop n room₁) ≡ [] = drop-of-length-le (drop n room₁) {i = length room₁ - n} (rw (length-drop n room₁) (omega arith)) in
+      let g : Finished f (drop n xs) (drop (length (take n xs)) room) w ys = rw (tail-part xs n, tail-part room₁ n, back) at rest in (
+        rw (s .reads, g .0, l) (same (omega arith) (omega arith) (omega arith)),
+        rw (s .reads, fore, none, append-nil ys, g .1) (lay-behind (take n xs) (joined (read closing f (drop n xs) .events)) room),
+      )

@@ -1,0 +1,57 @@
+-- What the tests of a call come to. Assumes nothing.
+use Prim.Native.Nat.{ℕ, _+_, _-_, _≤_, _<_}
+use mathlib.Core.Path.{_≡_, refl, sym}
+use mathlib.Core.Bool.{Bool, true, false, cond}
+use mathlib.Core.List.{List}
+use native.Mathlib.Omega.{arith}
+use lib.Dec.{ltb}
+use lib.ListN.{take}
+use borrow.Author.Tests.{lt-ltb, le-ltb, ltb-true, ltb-false}
+use Rattle.framing.specs.declared.Reason.the-variants.{Checksum}
+use Rattle.framing.specs.declared.Scanned.{Scanned}
+use Rattle.framing.specs.declared.Scanned.the-variants.{Whole, Partial, Broken}
+use Rattle.framing.specs.declared.Found.{Found}
+use Rattle.framing.specs.declared.Found.the-variants.{Frame, Start, Neither}
+use Rattle.framing.specs.Format.{Format, mgl, onflight, nmea, unknown, pendingBound}
+use Rattle.framing.specs.Shape.{scan}
+use Rattle.framing.specs.Frame.{good, frontOf, front}
+use Rattle.reader.specs.Refusal.{isStart}
+
+-- a test of a sum that does not fit, by a difference that does
+pub by-difference : (l s n : ℕ) → s ≤ l → ltb (l - s) n ≡ ltb l (s + n)
+by-difference l s n h = go (ltb (l - s) n) (ltb-true (l - s) n) (ltb-false (l - s) n)
+  where
+    go : (t : Bool) → (t ≡ true → l - s < n) → (t ≡ false → n ≤ l - s) → t ≡ ltb l (s + n)
+    go true p q = sym (lt-ltb l (s + n) (let g = p refl in omega arith))
+    go false p q = sym (le-ltb l (s + n) (let g = q refl in omega arith))
+
+pub passed : (l s n : ℕ) → l < s → ltb l (s + n) ≡ true
+passed l s n h = lt-ltb l (s + n) (omega arith)
+
+-- every bound fits the held bytes
+pub bound-most : (f : Format) → pendingBound f ≤ 275
+unfolding pendingBound
+bound-most mgl = omega arith
+bound-most onflight = omega arith
+bound-most nmea = omega arith
+bound-most unknown = omega arith
+
+-- ---- a start, as `front` answers it
+
+abbrev pub startOf : Found → Bool
+startOf (Frame n) = false
+startOf Start = true
+startOf (Neither r) = false
+
+pub front-start : (f : Format) (xs : List ℕ) → startOf (front f xs) ≡ isStart (scan f xs)
+unfolding front
+front-start f xs = go (scan f xs)
+  where
+    pick : (n : ℕ) (t : Bool) → startOf (cond t (Frame n) (Neither Checksum)) ≡ false
+    pick n true = refl
+    pick n false = refl
+
+    go : (o : Scanned) → startOf (frontOf f xs o) ≡ isStart o
+    go (Whole n) = pick n (good f (take n xs))
+    go Partial = refl
+    go (Broken r) = refl

@@ -1,0 +1,80 @@
+-- What a piece and a close give (docs/FORMATS.md, "Readers").
+use Prim.Native.Nat.{ℕ, _+_}
+use mathlib.Core.Bool.{Bool, true, false, cond}
+use mathlib.Core.List.{List, [], _++_}
+use lib.Dec.{eqb}
+use lib.ListN.{length, drop}
+use Rattle.framing.specs.Format.{formatOf}
+use Rattle.framing.specs.Reading.{Mode, ongoing, closing, Reading, read, joined, frameCount, framedCount, skippedCount, pendingCount}
+use Rattle.reader.specs.declared.Reader.{Reader as State}
+use Rattle.reader.specs.declared.Outcome.{Outcome}
+use Rattle.reader.specs.State.{pendingBytes, padded}
+use Rattle.reader.specs.Refusal.{refusal}
+
+-- A call on a reader: a piece, its bytes and the room as lent; or a close, and the room as lent.
+pub data Call : Type 0 where
+  aPiece : List ℕ → List ℕ → Call
+  aClose : List ℕ → Call
+
+-- the bytes that a call brings: none for a close
+abbrev pub bytesOf : Call → List ℕ
+bytesOf (aPiece bs room) = bs
+bytesOf (aClose room) = []
+
+abbrev pub roomOf : Call → List ℕ
+roomOf (aPiece bs room) = room
+roomOf (aClose room) = room
+
+abbrev pub closes : Call → Bool
+closes (aPiece bs room) = false
+closes (aClose room) = true
+
+-- A call as it returns: what it answers, and the room.
+pub record Returned : Type 0 where
+  pub outcome : Outcome
+  pub room : List ℕ
+
+abbrev pub returned : Outcome → List ℕ → Returned
+returned o room = record { outcome = o; room = room }
+
+-- bytes laid from the start of a room; the later room is unchanged
+abbrev pub lay : List ℕ → List ℕ → List ℕ
+lay bs room = bs ++ drop (length bs) room
+
+-- the reading of a line that is open, and of one that is closed
+abbrev pub modeOf : Bool → Mode
+modeOf false = ongoing
+modeOf true = closing
+
+-- what a call reads: the pending bytes, and then those that it brings
+abbrev pub gain : State → Call → Reading
+gain r c = read (modeOf (closes c)) (formatOf (r .format)) (pendingBytes r ++ bytesOf c)
+
+-- the reader r, open or closed, after it read g more
+abbrev pub grown : State → Bool → Reading → State
+grown r closed g =
+    record {
+      format = r .format;
+      closed = closed;
+      framed = r .framed + framedCount g;
+      skipped = r .skipped + skippedCount g;
+      pending = pendingCount g;
+      held = padded (g .rest);
+    }
+
+-- An accepted call: the reader has read g more, and the frames of g are laid in the room.
+abbrev pub taken : State → Bool → Reading → List ℕ → Returned
+taken r closed g room = returned (record { answer = 0; frames = frameCount g; reader = grown r closed g }) (lay (joined (g .events)) room)
+
+-- A refusal hands out no frames, and hands back the reader as given and the room untouched.
+abbrev pub refusedOf : ℕ → State → Outcome
+refusedOf a r = record { answer = a; frames = 0; reader = r }
+
+abbrev pub refused : ℕ → State → List ℕ → Returned
+refused a r room = returned (refusedOf a r) room
+
+-- What a call on the reader r gives.
+unfoldable pub serve : State → Call → Returned
+serve r c =
+    let a = refusal r (length (bytesOf c)) (length (roomOf c)) in
+    cond (eqb a 0) (taken r (closes c) (gain r c) (roomOf c)) (refused a r (roomOf c))

@@ -1,0 +1,48 @@
+-- What private functions ask and promise. Nothing public rests on these definitions.
+use Prim.Native.Nat.{ℕ, _+_, _≤_}
+use mathlib.Core.Bool.{Bool, cond}
+use mathlib.Core.List.{List}
+use lib.ListN.{length}
+use Rattle.framing.specs.declared.Found.{Found}
+use Rattle.framing.specs.declared.Found.the-variants.{Frame, Start, Neither}
+use Rattle.framing.specs.Reading.{Reading, frameCount, framedCount, skippedCount}
+use Rattle.reader.specs.declared.Reader.{Reader as State}
+use Rattle.reader.specs.declared.Outcome.{Outcome}
+use Rattle.reader.specs.declared.walk.Walked.{Walked}
+use Rattle.reader.specs.State.{padded}
+
+-- the first refusal in the order 11, 2, 1, 3, 4, or 0
+abbrev pub firstOf : Bool → Bool → Bool → Bool → Bool → ℕ
+firstOf unsound closed long over small = cond unsound 11 (cond closed 2 (cond long 1 (cond over 3 (cond small 4 0))))
+
+-- the length of the frame that some bytes begin with, or 0
+abbrev pub frameLength : Found → ℕ
+frameLength (Frame n) = n
+frameLength Start = 0
+frameLength (Neither r) = 0
+
+-- the numbers of a reading
+abbrev pub countsOf : Reading → Walked
+countsOf g = record { framed = framedCount g; skipped = skippedCount g; frames = frameCount g }
+
+-- What an accepted call answers: the reader's numbers have grown by w's, and rest is pending.
+abbrev pub renewedOf : State → Bool → Walked → List ℕ → Outcome
+renewedOf r closed w rest =
+    record {
+      answer = 0;
+      frames = w .frames;
+      reader = record {
+        format = r .format;
+        closed = closed;
+        framed = r .framed + w .framed;
+        skipped = r .skipped + w .skipped;
+        pending = length rest;
+        held = padded rest;
+      };
+    }
+
+-- the numbers of w and a rest fit into a reader
+pub record Fits (r : State) (w : Walked) (rest : List ℕ) : Type 0 where
+  pub few : w .frames ≤ w .framed
+  pub held : length rest ≤ 275
+  pub counted : r .framed + w .framed + (r .skipped + w .skipped) ≤ 4294967295

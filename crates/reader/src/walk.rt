@@ -1,0 +1,127 @@
+// The two readings of some bytes, which lay their frames in a room.
+use super::Reader;
+use framing::Found;
+ghost use mathlib.Core.Path.{_≡_};
+ghost use Prim.Native.Nat.{_+_, _≤_};
+ghost use mathlib.Core.List.{_++_};
+ghost use lib.ListN.{length, take};
+ghost use lib.Seq.{paste};
+ghost use Rattle.framing.specs.Format.{formatOf};
+ghost use Rattle.framing.specs.Frame.{front};
+ghost use Rattle.framing.specs.Reading.{ongoing, closing, read, joined};
+ghost use Rattle.reader.specs.State.{padded};
+ghost use Rattle.reader.specs.Calls.{lay};
+ghost use Rattle.reader.specs.Private.{frameLength, countsOf};
+
+// The numbers of a reading: the bytes framed, those skipped, and the frames.
+pub(crate) struct Walked {
+    pub(crate) framed: usize,
+    pub(crate) skipped: usize,
+    pub(crate) frames: usize,
+}
+
+// Copies src into room from place at on.
+fn copy_at(src: &[u8], room: &mut [u8], at: usize)
+    requires { ⌜ at + length (now src) ≤ length (now room) ⌝ }
+    ensures { λ _. ⌜ now (room .exit) ≡ paste (now (room .entry)) at (now (src .entry)) (length (now (src .entry))) ⌝ }
+{
+    let mut j = 0;
+    while j < src.len() {
+        room[at + j] = src[j];
+        j += 1;
+    }
+}
+
+// The pending bytes and then those of a piece, laid in work; answers how many they are.
+pub(crate) fn join(held: [u8; Reader::HELD], pending: usize, bytes: &[u8], work: &mut [u8]) -> usize
+    requires { ⌜ (pending ≤ 275) × (pending + length (now bytes) ≤ length (now work)) ⌝ }
+    ensures { λ n. ⌜ (n ≡ pending + length (now (bytes .entry))) × (take n (now (work .exit)) ≡ take pending held ++ now (bytes .entry)) ⌝ }
+{
+    copy_at(&held[..pending], work, 0);
+    copy_at(bytes, work, pending);
+    pending + bytes.len()
+}
+
+// Bytes as a reader holds them: zeros follow.
+pub(crate) fn keep(rest: &[u8]) -> [u8; Reader::HELD]
+    requires { ⌜ length (now rest) ≤ 275 ⌝ }
+    ensures { λ held. ⌜ held ≡ padded (now (rest .entry)) ⌝ }
+{
+    let mut held = [0u8; Reader::HELD];
+    copy_at(rest, &mut held, 0);
+    held
+}
+
+// Lays the frames of the reading of line in room.
+pub(crate) fn walk(format: u32, line: &[u8], room: &mut [u8]) -> Walked
+    requires { ⌜ length (now line) ≤ length (now room) ⌝ }
+    ensures { λ w. ⌜ (w ≡ countsOf (read ongoing (formatOf format) (now (line .entry))))
+        × (now (room .exit) ≡ lay (joined (read ongoing (formatOf format) (now (line .entry)) .events)) (now (room .entry))) ⌝ }
+{
+    let mut at = 0;
+    let mut framed = 0;
+    let mut frames = 0;
+    loop {
+        match framing::front(format, &line[at..]) {
+            Found::Frame(n) => {
+                let e = at + n;
+                copy_at(&line[at..e], room, framed);
+                framed += n;
+                frames += 1;
+                at = e;
+            }
+            Found::Start => {
+                return Walked {
+                    framed: framed,
+                    skipped: at - framed,
+                    frames: frames,
+                };
+            }
+            Found::Neither(_) => {
+                at += 1;
+            }
+        }
+    }
+}
+
+// The length of the frame that s begins with, or 0.
+fn frame_length(format: u32, s: &[u8]) -> usize
+    ensures { λ n. ⌜ n ≡ frameLength (front (formatOf format) (now (s .entry))) ⌝ }
+{
+    match framing::front(format, s) {
+        Found::Frame(n) => n,
+        Found::Start => 0,
+        Found::Neither(_) => 0,
+    }
+}
+
+// Lays the frames of the closing reading of s in room: where no frame stands the byte is skipped, and the shorter rest is read again.
+pub(crate) fn finish(format: u32, s: &[u8], room: &mut [u8]) -> Walked
+    requires { ⌜ length (now s) ≤ length (now room) ⌝ }
+    ensures { λ w. ⌜ (w ≡ countsOf (read closing (formatOf format) (now (s .entry))))
+        × (now (room .exit) ≡ lay (joined (read closing (formatOf format) (now (s .entry)) .events)) (now (room .entry))) ⌝ }
+{
+    if s.len() == 0 {
+        return Walked {
+            framed: 0,
+            skipped: 0,
+            frames: 0,
+        };
+    }
+    let n = frame_length(format, s);
+    if n == 0 {
+        let w = finish(format, &s[1..], room);
+        return Walked {
+            framed: w.framed,
+            skipped: w.skipped + 1,
+            frames: w.frames,
+        };
+    }
+    copy_at(&s[..n], room, 0);
+    let w = finish(format, &s[n..], &mut room[n..]);
+    Walked {
+        framed: w.framed + n,
+        skipped: w.skipped,
+        frames: w.frames + 1,
+    }
+}
