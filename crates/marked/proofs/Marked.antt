@@ -14,6 +14,9 @@ use Rattle.framing.specs.Shape.{mglNext, onflightNext, bodyNext, nmeaNext, next
 use Rattle.framing.specs.Frame.{front}
 use Rattle.framing.specs.Reading.{readSteps, read}
 use Rattle.framing.proofs.ShapeLaws.{counted, mgl-counts}
+use Rattle.calendar.specs.Calendar.{leap, leapDay, plainDays, monthDays, monthsTo, yearsTo, daysTo}
+use Rattle.calendar.specs.Clocks.{clockIn, clockOf}
+use Rattle.mgl.specs.Gyro.{scale, hundredthsOf}
 use Rattle.marked.specs.Rows.{All, table}
 
 infixr 20 _and_
@@ -25,13 +28,20 @@ mgl-filled : (m : ℕ) → 4 < m → (ys : List ℕ) → 4 + length ys ≡ m →
 mgl-filled m l ys e = counted mgl 4 mgl-counts 4 m ys (omega arith) l ∙ rw (le-leb m (4 + length ys) (omega arith))
 
 pub marked-cases : All table
-unfolding formatOf scan scanFrom next mglNext onflightNext nmeaNext bodyNext front read readSteps fletcherOf sumMod255 plainSums addMod255 xorOf
+unfolding formatOf scan scanFrom next mglNext onflightNext nmeaNext bodyNext front read readSteps fletcherOf sumMod255 plainSums addMod255 xorOf leap leapDay plainDays monthDays monthsTo yearsTo daysTo clockIn clockOf scale hundredthsOf
 marked-cases =
     (refl, mgl-filled 21 (omega arith))
     and (refl, mgl-filled 276 (omega arith))
     and (refl, refl, refl)
     and (refl, refl, refl)
     and (refl, refl, refl)
+    and refl
+    and refl
+    and refl
+    and refl
+    and refl
+    and refl
+    and refl
     and refl
     and refl
     and (refl, refl, refl)

@@ -2,6 +2,7 @@
 use Prim.Native.Nat.{ℕ, _+_}
 use mathlib.Core.Path.{_≡_}
 use mathlib.Core.List.{List, [], _∷_, _++_}
+use lib.IntN.{ℤ, pos, negsuc}
 use lib.ListN.{length}
 use Rattle.checksum.specs.Fletcher.{fletcherOf}
 use Rattle.checksum.specs.Xor.{xorOf}
@@ -9,6 +10,12 @@ use Rattle.framing.specs.declared.Scanned.the-variants.{Whole, Partial}
 use Rattle.framing.specs.Format.{formatOf}
 use Rattle.framing.specs.Shape.{scan}
 use Rattle.framing.specs.Reading.{Mode, ongoing, closing, read, framedCount, skippedCount, pendingCount}
+use Rattle.calendar.specs.declared.DateTime.{DateTime}
+use Rattle.calendar.specs.declared.Field.the-variants.{Day}
+use Rattle.calendar.specs.declared.Clock.{Clock}
+use Rattle.calendar.specs.declared.Clock.the-variants.{Good, Wrong}
+use Rattle.calendar.specs.Clocks.{clockOf}
+use Rattle.mgl.specs.Gyro.{hundredthsOf}
 
 pub data Row : Type 0 where
   -- these bytes of a format want n bytes
@@ -17,6 +24,10 @@ pub data Row : Type 0 where
   reads : Mode → ℕ → List ℕ → ℕ → ℕ → ℕ → Row
   -- Fletcher's sums of these bytes, the plain one first
   fletcher : List ℕ → ℕ → ℕ → Row
+  -- a gyro number stands for so many hundredths
+  gyro : ℤ → ℤ → Row
+  -- a date and time, its year counted from 2000, has this clock; up to 2255, so that no year of a byte is too late
+  clock : DateTime → Clock → Row
   -- the exclusive or of these bytes
   xor : List ℕ → ℕ → Row
 
@@ -27,7 +38,13 @@ Holds (wants f xs n) =
 Holds (reads c f xs a s p) =
     (framedCount (read c (formatOf f) xs) ≡ a) × (skippedCount (read c (formatOf f) xs) ≡ s) × (pendingCount (read c (formatOf f) xs) ≡ p)
 Holds (fletcher xs a b) = fletcherOf xs ≡ record { plain = a; weighted = b }
+Holds (gyro v d) = hundredthsOf v ≡ d
+Holds (clock t c) = clockOf t 2000 2255 ≡ c
 Holds (xor xs x) = xorOf xs ≡ x
+
+-- year, month, day, hour, minute, second
+abbrev pub at : ℕ → ℕ → ℕ → ℕ → ℕ → ℕ → DateTime
+at y m d h n s = record { year = y; month = m; day = d; hour = h; minute = n; second = s }
 
 -- every row holds
 abbrev pub All : List Row → Type 0
@@ -42,6 +59,13 @@ table =
     ∷ reads ongoing 1 (0x05 ∷ 0x05 ∷ 0x02 ∷ []) 0 1 2  -- (d)
     ∷ reads ongoing 2 (0x42 ∷ 0x42 ∷ 0x46 ∷ []) 0 1 2  -- (e)
     ∷ fletcher (0x42 ∷ 0x46 ∷ []) 136 202  -- (f)
+    ∷ gyro (pos 8945) (pos 8945)  -- (g)
+    ∷ gyro (pos 16953) (pos 34530)
+    ∷ gyro (pos 15000) (pos 15000)
+    ∷ gyro (negsuc 32767) (negsuc 192679)  -- -32768 and -192,680
+    ∷ clock (at 0 1 1 0 0 0) (Good (pos 946684800))  -- (h)
+    ∷ clock (at 23 6 17 13 49 43) (Good (pos 1687009783))  -- (i)
+    ∷ clock (at 100 2 29 0 0 0) (Wrong Day)  -- (j)
     ∷ xor (0x50 ∷ 0x4C ∷ 0x41 ∷ 0x52 ∷ 0x42 ∷ 0x2C ∷ 0x31 ∷ 0x32 ∷ 0x2E ∷ 0x33 ∷ 0x33 ∷ []) 0x4C  -- (k) PLARB,12.33
     ∷ reads closing 3 (0x24 ∷ 0x2A ∷ 0x30 ∷ 0x30 ∷ 0x0D ∷ 0x0A ∷ []) 0 6 0  -- (l) $*00 CR LF
     ∷ []

@@ -1,8 +1,11 @@
-// Numbers of a slice at an offset, low byte first. Every function is total: a byte past the end counts 0.
+// Numbers of a slice at an offset, low byte first, and signed numbers from their bits. Every function is total: a byte past
+// the end counts 0.
 ghost use mathlib.Core.Path.{_≡_};
 ghost use Prim.Native.Nat.{_+_};
 ghost use lib.ListN.{getD};
-ghost use Rattle.numbers.specs.Low.{low};
+ghost use lib.IntN.{natAbs};
+ghost use mir.Syntax.{w16, w32};
+ghost use Rattle.numbers.specs.Low.{low, signed, minus};
 
 // The byte i places after `at`.
 pub fn byte_at(s: &[u8], at: usize, i: usize) -> u8
@@ -16,6 +19,13 @@ pub fn byte_at(s: &[u8], at: usize, i: usize) -> u8
     0
 }
 
+// The number of the two bytes from `at` on.
+pub fn u16_at(s: &[u8], at: usize) -> u16
+    ensures { λ r. ⌜ r ≡ low 2 (now (s .entry)) at ⌝ }
+{
+    byte_at(s, at, 0) as u16 + byte_at(s, at, 1) as u16 * 0x100
+}
+
 // The number of the four bytes from `at` on.
 pub fn u32_at(s: &[u8], at: usize) -> u32
     ensures { λ r. ⌜ r ≡ low 4 (now (s .entry)) at ⌝ }
@@ -24,4 +34,53 @@ pub fn u32_at(s: &[u8], at: usize) -> u32
         + byte_at(s, at, 1) as u32 * 0x100
         + byte_at(s, at, 2) as u32 * 0x1_0000
         + byte_at(s, at, 3) as u32 * 0x100_0000
+}
+
+// The signed number with the bits of n. (A plain cast asks that n be small.)
+pub fn i16_of(n: u16) -> i16
+    ensures { λ r. ⌜ r ≡ signed w16 n ⌝ }
+{
+    if n < 0x8000 {
+        n as i16
+    } else {
+        !((0xFFFF - n) as i16)
+    }
+}
+
+pub fn i32_of(n: u32) -> i32
+    ensures { λ r. ⌜ r ≡ signed w32 n ⌝ }
+{
+    if n < 0x8000_0000 {
+        n as i32
+    } else {
+        !((0xFFFF_FFFF - n) as i32)
+    }
+}
+
+// The signed number of the two bytes from `at` on.
+pub fn i16_at(s: &[u8], at: usize) -> i16
+    ensures { λ r. ⌜ r ≡ signed w16 (low 2 (now (s .entry)) at) ⌝ }
+{
+    i16_of(u16_at(s, at))
+}
+
+// The signed number of the four bytes from `at` on.
+pub fn i32_at(s: &[u8], at: usize) -> i32
+    ensures { λ r. ⌜ r ≡ signed w32 (low 4 (now (s .entry)) at) ⌝ }
+{
+    i32_of(u32_at(s, at))
+}
+
+// How far z is from 0.
+pub fn size16(z: i16) -> u16
+    ensures { λ r. ⌜ r ≡ natAbs z ⌝ }
+{
+    if z < 0 { (!z) as u16 + 1 } else { z as u16 }
+}
+
+// Minus n.
+pub fn minus32(n: u32) -> i32
+    ensures { λ r. ⌜ r ≡ minus w32 n ⌝ }
+{
+    i32_of(std::num::wrapping_sub_u32(0, n))
 }

@@ -1,27 +1,15 @@
-// Published checksum vectors, and the example sentences of the LARUS protocol: what is published beside what is computed.
+// Published checksum vectors, and the example sentences of the LARUS protocol: what is published beside what is computed, and
+// the sentences field by field. Then the days of some years.
+mod days;
+mod fields;
+mod text;
+
 use framing::Found;
-use libc::STDOUT_FILENO;
-
-fn write(text: &[u8]) {
-    io::write_all(STDOUT_FILENO, text);
-}
-
-// The hexadecimal digit of n % 16, in capitals.
-fn digit(n: u32) -> u8 {
-    let d = (n % 16) as u8;
-    if d < 10 { d + b'0' } else { d + 55 }
-}
-
-fn write_byte(n: u32) {
-    write(&[digit(n / 16), digit(n)]);
-}
-
-fn write_word(n: u32) {
-    write_byte(n / 0x100_0000);
-    write_byte(n / 0x1_0000);
-    write_byte(n / 0x100);
-    write_byte(n);
-}
+use text::digit;
+use text::write;
+use text::write_byte;
+use text::write_number;
+use text::write_word;
 
 fn write_verdict(same: bool) {
     if same {
@@ -80,12 +68,19 @@ fn sentence(line: &[u8]) {
     match framing::front(3, line) {
         Found::Frame(m) => {
             write(b", a frame of ");
-            io::print_decimal(STDOUT_FILENO, m as u64);
+            write_number(m as u64);
             write(b"\n");
         }
         Found::Start => write(b", a start\n"),
         Found::Neither(_) => write(b", no frame\n"),
     }
+    fields::write_fields(line);
+}
+
+// A line with the checksum that the rule gives in place of the published one.
+fn corrected(line: &[u8]) {
+    write(b"nmea, by the rule:\n");
+    fields::write_fields(line);
 }
 
 // The check value of CRC-32, and vectors of the Go standard library (hash/crc32, the list `golden`, column `ieee`).
@@ -136,6 +131,8 @@ fn settings() {
     sentence(b"$PLARS,H,BAL,1.000*68\r\n");
     sentence(b"$PLARS,H,BUGS,0*0B\r\n");
     sentence(b"$PLARS,H,QNH,1031.4*76\r\n");
+    corrected(b"$PLARS,L,BAL,0.752*5D\r\n");
+    corrected(b"$PLARS,H,BAL,1.000*58\r\n");
 }
 
 fn main() {
@@ -143,4 +140,5 @@ fn main() {
     fletcher_vectors();
     sentences();
     settings();
+    days::years();
 }

@@ -1,0 +1,101 @@
+-- Laws of one whole frame over every format: what the test says, how long a frame is, and that its body lies inside.
+-- Assumes nothing.
+use Prim.Native.Nat.{ℕ, _+_, _-_, _≤_, _<_}
+use mathlib.Core.Path.{_≡_, refl, ap, subst}
+use mathlib.Core.Logic.{_↔_}
+use mathlib.Core.Bool.{true}
+use mathlib.Core.List.{List}
+use native.Mathlib.Omega.{arith}
+use lib.Dec.{T}
+use lib.ListN.{length, length-drop}
+use lib.Seq.{length-take-le}
+use borrow.Author.Tests.{eqb-true, eq-eqb}
+use Rattle.framing.specs.declared.Found.{Found}
+use Rattle.framing.specs.declared.Found.the-variants.{Frame, Start, Neither}
+use Rattle.framing.specs.Format.{Format, mgl, onflight, nmea, unknown, known, shortest, longest}
+use Rattle.framing.specs.Frame.{part, good, front, IsFrame}
+use Rattle.framing.proofs.FrameLaws.{frame-means}
+use Rattle.framing.proofs.Length.{Within, whole-within, longest-pending}
+use Rattle.content.specs.Answer.{given}
+use Rattle.content.specs.Body.{spans, isFrame, bodyStart, bodyEnd, placeOf, bodyOf}
+use Rattle.content.proofs.AnswerLaws.{passes}
+
+-- ---- the test
+
+spans-frame : (o : Found) (n : ℕ) → spans o n ≡ true → o ≡ Frame n
+spans-frame (Frame m) n e = ap Frame (eqb-true m n e)
+spans-frame Start n e = cc
+spans-frame (Neither r) n e = cc
+
+-- Bytes pass exactly where they are one frame.
+pub frame-test : (f : Format) (s : List ℕ) → (isFrame f s ≡ true) ↔ IsFrame f s
+unfolding isFrame
+frame-test f s = (spans-frame (front f s) (length s), λ e. rw e (eq-eqb (length s) (length s) refl))
+
+-- ---- how many bytes
+
+module _ (f : Format) (s : List ℕ) (h : isFrame f s ≡ true) where
+  frame-within : Within f (length s) (length s)
+  frame-within = whole-within f (length s) s (frame-means f s .0 (frame-test f s .0 h) .0)
+
+  checksum-right : T (good f s)
+  checksum-right = frame-means f s .0 (frame-test f s .0 h) .1
+
+  pub frame-long : shortest f ≤ length s
+  frame-long = frame-within .least
+
+good-known : (f : Format) (s : List ℕ) → T (good f s) → T (known f)
+unfolding good known
+good-known mgl s h = tt
+good-known onflight s h = tt
+good-known nmea s h = tt
+good-known unknown s h = h
+
+pub frame-short : (f : Format) (s : List ℕ) → isFrame f s ≡ true → length s ≤ longest f
+frame-short f s h =
+    omega (arith, frame-within f s h .most, longest-pending f (good-known f s (checksum-right f s h)))
+
+pub onflight-length : (s : List ℕ) → isFrame onflight s ≡ true → length s ≡ 158
+unfolding shortest longest
+onflight-length s h = omega (arith, frame-long onflight s h, frame-short onflight s h)
+
+-- ---- the body
+
+body-fits : (f : Format) → bodyStart f + bodyEnd f ≤ shortest f
+unfolding bodyStart bodyEnd shortest
+body-fits mgl = omega arith
+body-fits onflight = omega arith
+body-fits nmea = omega arith
+body-fits unknown = omega arith
+
+-- What stands before the body and after it lies inside the frame.
+pub body-inside : (f : Format) (s : List ℕ) → isFrame f s ≡ true → bodyStart f + bodyEnd f ≤ length s
+body-inside f s h = omega (arith, body-fits f, frame-long f s h)
+
+-- a bytes before the body of a frame, and e after it
+module _ (f : Format) (s : List ℕ) {a e : ℕ} (h : isFrame f s ≡ true) (p : a ≡ bodyStart f) (q : e ≡ bodyEnd f) where
+  pub place-at : given (record { start = a; end = length s - e }) ≡ placeOf f s
+  unfolding placeOf
+  place-at = rw (p, q) (passes _ _ h)
+
+  pub body-at : part a (length s - e) s ≡ bodyOf f s
+  unfolding bodyOf
+  body-at = rw (p, q, h)
+
+-- The body of a frame is not empty: a byte more than what stands around it is there in the shortest.
+body-room : (f : Format) → T (known f) → bodyStart f + bodyEnd f < shortest f
+unfolding bodyStart bodyEnd shortest known
+body-room mgl k = omega arith
+body-room onflight k = omega arith
+body-room nmea k = omega arith
+body-room unknown k = absurd k
+
+part-length : (a e : ℕ) (s : List ℕ) → a ≤ e → e ≤ length s → length (part a e s) ≡ e - a
+part-length a e s h k = length-take-le (e - a) _ (simp length-drop (omega arith))
+
+pub body-some : (f : Format) (s : List ℕ) → isFrame f s ≡ true → 0 < length (bodyOf f s)
+body-some f s h =
+    let r = body-room f (good-known f s (checksum-right f s h)) in
+    let n = frame-long f s h in
+    let l = part-length (bodyStart f) (length s - bodyEnd f) s (omega arith) (omega arith) in
+    subst (λ (b : List ℕ). 0 < length b) (body-at f s h refl refl) (omega arith)

@@ -1,0 +1,39 @@
+-- For the answers that several formats share: document 01's number and values of each case.
+use Prim.Native.Nat.{ℕ}
+use lib.IntN.{ℤ, pos}
+use Rattle.calendar.specs.Clocks.{ClockValues, clockValues}
+use Rattle.content.specs.declared.NumberReading.{NumberReading}
+use Rattle.content.specs.declared.NumberReading.the-variants as number
+use Rattle.content.specs.declared.Judged.{Judged}
+use Rattle.content.specs.declared.Judged.the-variants as judged
+use Rattle.content.specs.declared.ClockReading.{ClockReading}
+use Rattle.content.specs.declared.ClockReading.the-variants as clock
+use Rattle.content.specs.declared.PositionReading.{PositionReading}
+use Rattle.content.specs.declared.PositionReading.the-variants as position
+use Rattle.content.specs.Answer.{Answer, given, refused, refusalNumber}
+
+abbrev pub numberAnswer : NumberReading → Answer ℕ
+numberAnswer (number.Read n) = given n
+numberAnswer (number.Refused r) = refused 0 (refusalNumber r)
+
+abbrev pub judgedNumber : Judged → ℕ
+judgedNumber judged.Done = 0
+judgedNumber (judged.Refused r) = refusalNumber r
+
+abbrev pub noClock : ClockValues
+noClock = record { which = 0; seconds = pos 0 }
+
+abbrev pub clockAnswer : ClockReading → Answer ClockValues
+clockAnswer (clock.Read c) = given (clockValues c)
+clockAnswer (clock.Refused r) = refused noClock (refusalNumber r)
+
+pub record Position : Type 0 where
+  pub latitude : ℤ
+  pub longitude : ℤ
+
+abbrev pub noPosition : Position
+noPosition = record { latitude = pos 0; longitude = pos 0 }
+
+abbrev pub positionAnswer : PositionReading → Answer Position
+positionAnswer (position.Read a b) = given (record { latitude = a; longitude = b })
+positionAnswer (position.Refused r) = refused noPosition (refusalNumber r)

@@ -1,0 +1,117 @@
+// What every reading of a frame's content shares: whether bytes are one whole frame, where its body is, and the refusals.
+ghost use mathlib.Core.Path.{_≡_};
+ghost use Rattle.framing.specs.Format.{formatOf};
+ghost use Rattle.content.specs.Answer.{refusalNumber};
+ghost use Rattle.content.specs.Body.{isFrame, bodyStart, bodyEnd, placeAnswer, placeOf, bodyOf};
+use calendar::Clock;
+use framing::Found;
+
+// Why a reading refuses. (Document 01's refusals 7, 8 and 9.)
+pub enum Refusal {
+    // The bytes are not one whole frame of the format.
+    NotOneFrame,
+    // A frame, but of another message, version or size.
+    OtherMessage,
+    // A field outside its form or range, or an item past the last.
+    OutOfForm,
+}
+
+// Where the body of a frame is: from `start` up to `end`.
+pub enum Place {
+    At { start: usize, end: usize },
+    Refused(Refusal),
+}
+
+// A number of any format: a count, milliseconds, pascals.
+pub enum NumberReading {
+    Read(u32),
+    Refused(Refusal),
+}
+
+// Whether a reading was done, where its value is an array and stands beside.
+pub enum Judged {
+    Done,
+    Refused(Refusal),
+}
+
+// A clock, of any format.
+pub enum ClockReading {
+    Read(Clock),
+    Refused(Refusal),
+}
+
+// A latitude and a longitude, in the format's own unit; south and west are below 0.
+pub enum PositionReading {
+    Read { latitude: i32, longitude: i32 },
+    Refused(Refusal),
+}
+
+// Document 01's number of a refusal.
+pub fn number_of(r: Refusal) -> u32
+    ensures { λ n. ⌜ n ≡ refusalNumber r ⌝ }
+{
+    match r {
+        Refusal::NotOneFrame => 7,
+        Refusal::OtherMessage => 8,
+        Refusal::OutOfForm => 9,
+    }
+}
+
+// Whether a slice is one whole frame of a format, for every format number.
+pub fn is_frame(format: u32, s: &[u8]) -> bool
+    ensures { λ r. ⌜ r ≡ isFrame (formatOf format) (now (s .entry)) ⌝ }
+{
+    match framing::front(format, s) {
+        Found::Frame(n) => n == s.len(),
+        Found::Start => false,
+        Found::Neither(_) => false,
+    }
+}
+
+// How many bytes of a frame stand before its body.
+fn body_start(format: u32) -> usize
+    ensures { λ r. ⌜ r ≡ bodyStart (formatOf format) ⌝ }
+{
+    match format {
+        1 => 8,
+        2 => 4,
+        3 => 1,
+        _ => 0,
+    }
+}
+
+// How many bytes of a frame stand after its body.
+fn body_end(format: u32) -> usize
+    ensures { λ r. ⌜ r ≡ bodyEnd (formatOf format) ⌝ }
+{
+    match format {
+        1 => 4,
+        2 => 2,
+        3 => 5,
+        _ => 0,
+    }
+}
+
+// Where the body of a frame is: an MGL body, an OnFlight payload, an NMEA body.
+pub fn locate(format: u32, s: &[u8]) -> Place
+    ensures { λ r. ⌜ placeAnswer r ≡ placeOf (formatOf format) (now (s .entry)) ⌝ }
+{
+    if !is_frame(format, s) {
+        return Place::Refused(Refusal::NotOneFrame);
+    }
+    let start = body_start(format);
+    let end = s.len() - body_end(format);
+    Place::At { start, end }
+}
+
+// The body itself, a part of the slice; none where the slice is not one frame.
+pub fn body(format: u32, s: &[u8]) -> &[u8]
+    ensures { λ r. ⌜ now r ≡ bodyOf (formatOf format) (now (s .entry)) ⌝ }
+{
+    if !is_frame(format, s) {
+        return &s[0..0];
+    }
+    let start = body_start(format);
+    let end = s.len() - body_end(format);
+    &s[start..end]
+}

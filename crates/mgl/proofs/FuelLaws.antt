@@ -1,0 +1,87 @@
+-- Laws of the fuel readings: the body's first number as a count, and how a tank's reading goes on from the count's.
+-- Assumes nothing.
+use Prim.Native.Nat.{ℕ, _^_, _<_, _≤_}
+use mathlib.Core.Path.{_≡_, refl, sym, ap, _∙_}
+use mathlib.Core.Bool.{Bool, true, false, cond}
+use mathlib.Core.List.{List}
+use native.Mathlib.Decide.{decLt}
+use native.Mathlib.Omega.{arith}
+use lib.Dec.{eqb, ltb}
+use lib.IntN.{ℤ}
+use borrow.Author.Tests.{eq-eqb, ne-eqb, lt-ltb, le-ltb}
+use mir.Syntax.{w32}
+use Rattle.numbers.specs.Low.{low, signed}
+use Rattle.numbers.proofs.Signed.{small, below-zero}
+use Rattle.framing.specs.Format.{mgl, longest}
+use Rattle.content.specs.Answer.{Answer, given, refused, unless, refusalNumber}
+use Rattle.content.specs.Body.{isFrame}
+use Rattle.content.specs.declared.Refusal.{Refusal}
+use Rattle.content.specs.declared.Refusal.the-variants.{NotOneFrame, OtherMessage, OutOfForm}
+use Rattle.content.specs.declared.NumberReading.{NumberReading}
+use Rattle.content.specs.declared.NumberReading.the-variants.{Read, Refused}
+use Rattle.content.specs.Shared.{numberAnswer}
+use Rattle.content.proofs.AnswerLaws.{after, fails}
+use Rattle.content.proofs.BodyLaws.{frame-short}
+use Rattle.mgl.specs.declared.fuel.Tank.{Tank}
+use Rattle.mgl.specs.Fuel.{isFuel, tanks, equals, counted, countOf, tankAt, noTank, tankOf}
+
+-- a number below half is the signed number of n exactly where it is n
+same-number : (n k : ℕ) → k < 2 ^ 31 → equals (signed w32 n) k ≡ eqb n k
+same-number n k h = go (decLt n (2 ^ 31))
+  where
+    go : Dec (n < 2 ^ 31) → equals (signed w32 n) k ≡ eqb n k
+    go (yes p) = ap (λ (z : ℤ). equals z k) (small w32 p)
+    go (no p) = ap (λ (z : ℤ). equals z k) (below-zero w32 {n = n} (omega arith)) ∙ sym (ne-eqb n k (λ e. omega arith))
+
+-- n is the body's first number; a frame is short, so the sign does not matter
+module _ (s : List ℕ) {n : ℕ} (h : isFrame mgl s ≡ true) (e : n ≡ low 4 s 8) where
+  count-test : counted s ≡ eqb n (tanks s)
+  unfolding counted tanks longest
+  count-test = rw (← e) (same-number n (tanks s) (omega (arith, frame-short mgl s h)))
+
+  pub count-right : n ≡ tanks s → counted s ≡ true
+  count-right d = count-test ∙ eq-eqb n (tanks s) d
+
+  pub count-wrong : (n ≡ tanks s → ⊥) → counted s ≡ false
+  count-wrong d = count-test ∙ ne-eqb n (tanks s) d
+
+-- where the count's reading is done the tank's goes on with the count, and else both refuse alike
+abbrev onward : Answer ℕ → (ℕ → Answer Tank) → Answer Tank
+onward a f = cond (eqb (a .number) 0) (f (a .value)) (refused noTank (a .number))
+
+same-tests : (a b d : Bool) (k : ℕ) (f : ℕ → Answer Tank)
+    → onward (unless 0 a 7 (unless 0 b 8 (unless 0 d 9 (given k)))) f ≡ unless noTank a 7 (unless noTank b 8 (unless noTank d 9 (f k)))
+same-tests false b d k f = refl
+same-tests true false d k f = refl
+same-tests true true false k f = refl
+same-tests true true true k f = refl
+
+module _ (s : List ℕ) (i : ℕ) where
+  abbrev judged : ℕ → Answer Tank
+  judged k = unless noTank (ltb i k) 9 (given (tankAt s i))
+
+  refused-on : (r : Refusal) → refused noTank (refusalNumber r) ≡ onward (numberAnswer (Refused r)) judged
+  refused-on NotOneFrame = refl
+  refused-on OtherMessage = refl
+  refused-on OutOfForm = refl
+
+  -- a is what the reading of the count answered
+  module _ (a : NumberReading) (e : numberAnswer a ≡ countOf s) where
+    goes-on : onward (numberAnswer a) judged ≡ tankOf s i
+    unfolding countOf tankOf
+    goes-on = rw e (same-tests (isFrame mgl s) (isFuel s) (counted s) (tanks s) judged)
+
+    pub tank-refused : {r : Refusal} → a ≡ Refused r → refused noTank (refusalNumber r) ≡ tankOf s i
+    tank-refused {r} d = refused-on r ∙ (rw d at goes-on)
+
+    module _ {k : ℕ} (d : a ≡ Read k) where
+      counted-on : judged k ≡ tankOf s i
+      counted-on = rw d at goes-on
+
+      pub tank-past : k ≤ i → refused noTank 9 ≡ tankOf s i
+      tank-past h = fails _ (le-ltb i k h) ∙ counted-on
+
+      pub tank-there : {t : Tank} → i < k → t ≡ tankAt s i → given t ≡ tankOf s i
+      tank-there h q = after _ _ (lt-ltb i k h) (ap given q) ∙ counted-on
+
+pub ruleset tank-answers = (tank-refused, tank-past, tank-there)

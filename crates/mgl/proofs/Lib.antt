@@ -1,0 +1,3 @@
+-- Laws of the readings, and the proofs of the functions.
+pub mod FuelLaws
+pub mod GyroLaws

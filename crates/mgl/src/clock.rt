@@ -1,0 +1,27 @@
+// The clock of the primary flight message: type 1, version 1, L = 24, so a frame of 44 bytes.
+use calendar::DateTime;
+use content::ClockReading;
+use content::Refusal;
+ghost use mathlib.Core.Path.{_≡_};
+ghost use Rattle.content.specs.Shared.{clockAnswer};
+ghost use Rattle.mgl.specs.Clock.{clockOf};
+
+pub fn read_clock(s: &[u8]) -> ClockReading
+    ensures { λ r. ⌜ clockAnswer r ≡ clockOf (now (s .entry)) ⌝ }
+{
+    if !content::is_frame(1, s) {
+        return ClockReading::Refused(Refusal::NotOneFrame);
+    }
+    if !super::is_message(s, 1, 44) {
+        return ClockReading::Refused(Refusal::OtherMessage);
+    }
+    let t = DateTime {
+        year: numbers::byte_at(s, 8, 29),
+        month: numbers::byte_at(s, 8, 28),
+        day: numbers::byte_at(s, 8, 27),
+        hour: numbers::byte_at(s, 8, 24),
+        minute: numbers::byte_at(s, 8, 25),
+        second: numbers::byte_at(s, 8, 26),
+    };
+    ClockReading::Read(calendar::binary_clock(t, 2000, 2099))
+}

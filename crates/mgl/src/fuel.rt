@@ -1,0 +1,78 @@
+// The fuel message, tank by tank: type 11, version 1, a body of 4 + 8k bytes with k from 1 to 32.
+use content::NumberReading;
+use content::Refusal;
+ghost use mathlib.Core.Path.{_≡_};
+ghost use Rattle.content.specs.Shared.{numberAnswer};
+ghost use Rattle.mgl.specs.Fuel.{isFuel, countOf, tankAnswer, tankAt, tankOf};
+
+pub struct Tank {
+    pub level: i32,
+    pub kind: u8,
+    pub on: u8,
+    pub sensors: u16,
+}
+
+pub enum TankReading {
+    Read(Tank),
+    Refused(Refusal),
+}
+
+fn is_fuel(s: &[u8]) -> bool
+    ensures { λ r. ⌜ r ≡ isFuel (now (s .entry)) ⌝ }
+{
+    if !super::has_type(s, 11) {
+        return false;
+    }
+    if s.len() < 24 {
+        return false;
+    }
+    if 272 < s.len() {
+        return false;
+    }
+    (s.len() - 16) % 8 == 0
+}
+
+// How many tanks a fuel frame has. The body's first number is signed; k is small, so comparing the bits compares the numbers.
+pub fn read_count(s: &[u8]) -> NumberReading
+    ensures { λ r. ⌜ numberAnswer r ≡ countOf (now (s .entry)) ⌝ }
+{
+    if !content::is_frame(1, s) {
+        return NumberReading::Refused(Refusal::NotOneFrame);
+    }
+    if !is_fuel(s) {
+        return NumberReading::Refused(Refusal::OtherMessage);
+    }
+    let k = (s.len() as u32 - 16) / 8;
+    if numbers::u32_at(s, 8) != k {
+        return NumberReading::Refused(Refusal::OutOfForm);
+    }
+    NumberReading::Read(k)
+}
+
+// Tank i of a frame, from 0.
+fn tank_at(s: &[u8], i: u32) -> Tank
+    ensures { λ r. ⌜ r ≡ tankAt (now (s .entry)) i ⌝ }
+{
+    let at = 4 + 8 * i as usize;
+    Tank {
+        level: numbers::i32_at(s, 8 + at),
+        kind: numbers::byte_at(s, 8, at + 4),
+        on: numbers::byte_at(s, 8, at + 5),
+        sensors: numbers::u16_at(s, 8 + (at + 6)),
+    }
+}
+
+// Tank i of a fuel frame, from 0.
+pub fn read_tank(s: &[u8], i: usize) -> TankReading
+    ensures { λ r. ⌜ tankAnswer r ≡ tankOf (now (s .entry)) i ⌝ }
+{
+    match read_count(s) {
+        NumberReading::Refused(r) => TankReading::Refused(r),
+        NumberReading::Read(k) => {
+            if k as usize <= i {
+                return TankReading::Refused(Refusal::OutOfForm);
+            }
+            TankReading::Read(tank_at(s, i as u32))
+        }
+    }
+}

@@ -1,0 +1,21 @@
+use borrow.Author.Needs.{needs}
+use mathlib.Core.Path.{_∙_}
+use Rattle.framing.specs.Format.{formatOf}
+use Rattle.nmea.specs.Rmc.{statusOf}
+use Rattle.sentence.proofs.JudgeLaws.{judged-refused, judged-done}
+use Rattle.nmea.proofs.rmc.read_status.Statement.{statement}
+use Rattle.nmea.proofs.rmc.read_status.Tie as tie
+
+pub read-status-spec : {M : Type 1} → statement M
+unfolding formatOf statusOf
+read-status-spec =
+    tie.close
+    (tie.spec
+    (λ c κs. search needs)
+    (λ c. search needs)
+    (λ c. judged-refused _ _ _ _ _ _ (c .before .before .before .judge .ensures) _ (c .before .judged .given .1))
+    (λ c. search needs)
+    (λ c κs. search needs)
+    (λ c κs. search needs)
+    (λ c κs. search needs)
+    (λ c. (rw (c .before .field .ensures, c .before .before .body .ensures) at (c .status-of .ensures)) ∙ judged-done _ _ _ _ _ _ (c .before .before .before .before .before .judge .ensures) (c .before .before .before .enum-told .given .1)))

@@ -1,0 +1,3 @@
+-- What the contracts of `nmea` cite.
+pub mod Angle
+pub mod Rmc

@@ -1,0 +1,96 @@
+-- Clock, position and status of an RMC sentence (docs/FORMATS.md, "NMEA content" and "Clock times").
+use Prim.Native.Nat.{ℕ, _+_, _-_, _*_}
+use mathlib.Core.Bool.{Bool, cond, _&&_, _||_}
+use mathlib.Core.List.{List, [], _∷_}
+use lib.Dec.{eqb}
+use lib.ListN.{length, getD, take, drop}
+use Rattle.calendar.specs.declared.DateTime.{DateTime}
+use Rattle.calendar.specs.declared.Clock.the-variants.{Unset}
+use Rattle.calendar.specs.Clocks as calendar
+use Rattle.content.specs.Answer.{Answer, given, refused, unless, refusalNumber}
+use Rattle.framing.specs.Format.{nmea}
+use Rattle.content.specs.Body.{bodyOf}
+use Rattle.content.specs.Shared.{noClock, Position, noPosition}
+use Rattle.sentence.specs.Fields.{fieldAt}
+use Rattle.sentence.specs.Digits.{allDigits}
+use Rattle.nmea.specs.declared.angle.Angle.{Angle}
+use Rattle.nmea.specs.declared.angle.Angle.the-variants.{Good, Bad}
+use Rattle.nmea.specs.declared.rmc.Status.{Status}
+use Rattle.nmea.specs.declared.rmc.Status.the-variants.{Valid, Warning}
+use Rattle.nmea.specs.declared.rmc.StatusReading.{StatusReading}
+use Rattle.nmea.specs.declared.rmc.StatusReading.the-variants.{Read, Refused}
+use Rattle.sentence.specs.Judge.{inSentence, fieldIn}
+use Rattle.nmea.specs.Angle.{latitudeOf, longitudeOf}
+
+-- GPRMC, and twelve fields after it
+abbrev pub tag : List ℕ
+tag = 0x47 ∷ 0x50 ∷ 0x52 ∷ 0x4D ∷ 0x43 ∷ []
+
+abbrev pub inRmc : {A : Type 0} → A → List ℕ → Answer A → Answer A
+inRmc zeros s answer = inSentence zeros tag 13 s answer
+
+-- ---- the clock: time is field 1, date field 9
+
+-- hhmmss.ss
+unfoldable pub isTime : List ℕ → Bool
+isTime s = eqb (length s) 9 && eqb (getD s 6 0) 0x2E && allDigits (take 6 s) && allDigits (drop 7 s)
+
+-- ddmmyy
+unfoldable pub isDate : List ℕ → Bool
+isDate s = eqb (length s) 6 && allDigits s
+
+-- the number of the two digits at i
+unfoldable pub twoAt : List ℕ → ℕ → ℕ
+twoAt s i = (getD s i 0 - 0x30) * 10 + (getD s (i + 1) 0 - 0x30)
+
+-- the hundredths are dropped
+abbrev pub dateTime : List ℕ → List ℕ → DateTime
+dateTime time date = record {
+  hour = twoAt time 0;
+  minute = twoAt time 2;
+  second = twoAt time 4;
+  day = twoAt date 0;
+  month = twoAt date 2;
+  year = twoAt date 4;
+}
+
+-- an empty time or date is unset, whatever the other is; else both are in form, or 9. The year is 2000 + yy.
+unfoldable pub fieldsClock : List ℕ → List ℕ → Answer calendar.ClockValues
+fieldsClock time date =
+    cond (eqb (length time) 0 || eqb (length date) 0) (given (calendar.clockValues Unset))
+    (unless noClock (isTime time && isDate date) 9
+    (given (calendar.clockValues (calendar.clockOf (dateTime time date) 2000 2099))))
+
+unfoldable pub clockOf : List ℕ → Answer calendar.ClockValues
+clockOf s = inRmc noClock s (fieldsClock (fieldIn s 1) (fieldIn s 9))
+
+-- ---- the position: latitude and its hemisphere are fields 3 and 4, longitude and its hemisphere 5 and 6
+
+abbrev pub both : Angle → Angle → Answer Position
+both Bad longitude = refused noPosition 9
+both (Good a) Bad = refused noPosition 9
+both (Good a) (Good b) = given (record { latitude = a; longitude = b })
+
+abbrev pub bodyPosition : List ℕ → Answer Position
+bodyPosition body =
+    both (latitudeOf (fieldAt body 3) (fieldAt body 4)) (longitudeOf (fieldAt body 5) (fieldAt body 6))
+
+unfoldable pub positionOf : List ℕ → Answer Position
+positionOf s = inRmc noPosition s (bodyPosition (bodyOf nmea s))
+
+-- ---- the status, field 2: the letter A or V
+
+abbrev pub letter : Status → ℕ
+letter Valid = 0x41
+letter Warning = 0x56
+
+abbrev pub statusAnswer : StatusReading → Answer ℕ
+statusAnswer (Read x) = given (letter x)
+statusAnswer (Refused r) = refused 0 (refusalNumber r)
+
+unfoldable pub fieldStatus : List ℕ → Answer ℕ
+fieldStatus s =
+    unless 0 (eqb (length s) 1 && (eqb (getD s 0 0) 0x41 || eqb (getD s 0 0) 0x56)) 9 (given (getD s 0 0))
+
+unfoldable pub statusOf : List ℕ → Answer ℕ
+statusOf s = inRmc 0 s (fieldStatus (fieldIn s 2))

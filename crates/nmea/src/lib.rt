@@ -1,0 +1,3 @@
+// Fields of NMEA sentences: RMC.
+mod angle;
+pub mod rmc;

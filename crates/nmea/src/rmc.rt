@@ -1,0 +1,176 @@
+// RMC: clock, position and status, each judging only its own fields.
+use super::angle::Angle;
+use calendar::Clock;
+use calendar::DateTime;
+use content::ClockReading;
+use content::Judged;
+use content::PositionReading;
+use content::Refusal;
+use sentence::Digits;
+ghost use mathlib.Core.Path.{_≡_};
+ghost use Prim.Native.Nat.{_≤_};
+ghost use lib.Dec.{T};
+ghost use lib.ListN.{length, take};
+ghost use Rattle.content.specs.Shared.{judgedNumber, clockAnswer, positionAnswer};
+ghost use Rattle.sentence.specs.Digits.{allDigits};
+ghost use Rattle.sentence.specs.Judge.{refusalOf};
+ghost use Rattle.nmea.specs.Rmc.{tag, isTime, isDate, twoAt, fieldsClock, clockOf, bodyPosition, positionOf, statusAnswer, fieldStatus, statusOf};
+
+// What the receiver says of its data: A is valid, V is a navigation receiver warning.
+pub enum Status {
+    Valid,
+    Warning,
+}
+
+pub enum StatusReading {
+    Read(Status),
+    Refused(Refusal),
+}
+
+// GPRMC, and twelve fields after it: else a refusal.
+fn judge(s: &[u8]) -> Judged
+    ensures { λ r. ⌜ judgedNumber r ≡ refusalOf tag 13 (now (s .entry)) ⌝ }
+{
+    sentence::judge(s, b"GPRMC", 13)
+}
+
+// Whether all of at most nine bytes are digits.
+fn all_digits(s: &[u8]) -> bool
+    requires { ⌜ length (now s) ≤ 9 ⌝ }
+    ensures { λ r. ⌜ r ≡ allDigits (now (s .entry)) ⌝ }
+{
+    match sentence::number_of(s) {
+        Digits::Of(_) => true,
+        Digits::None => false,
+    }
+}
+
+// Whether a field is a time: hhmmss.ss.
+fn is_time(s: &[u8]) -> bool
+    ensures { λ r. ⌜ r ≡ isTime (now (s .entry)) ⌝ }
+{
+    if s.len() != 9 {
+        return false;
+    }
+    if s[6] != b'.' {
+        return false;
+    }
+    if !all_digits(&s[0..6]) {
+        return false;
+    }
+    all_digits(&s[7..9])
+}
+
+// Whether a field is a date: ddmmyy.
+fn is_date(s: &[u8]) -> bool
+    ensures { λ r. ⌜ r ≡ isDate (now (s .entry)) ⌝ }
+{
+    if s.len() != 6 {
+        return false;
+    }
+    all_digits(s)
+}
+
+// The number of the two digits at i, where the first six bytes are digits.
+fn two_at(s: &[u8], i: usize) -> u8
+    requires { ⌜ (i ≤ 4) × ((6 ≤ length (now s)) × T (allDigits (take 6 (now s)))) ⌝ }
+    ensures { λ r. ⌜ r ≡ twoAt (now (s .entry)) i ⌝ }
+{
+    (s[i] - b'0') * 10 + (s[i + 1] - b'0')
+}
+
+// The clock of a time and a date. An empty one decides before the other's form is judged.
+fn clock_of(time: &[u8], date: &[u8]) -> ClockReading
+    ensures { λ r. ⌜ clockAnswer r ≡ fieldsClock (now (time .entry)) (now (date .entry)) ⌝ }
+{
+    if time.len() == 0 {
+        return ClockReading::Read(Clock::Unset);
+    }
+    if date.len() == 0 {
+        return ClockReading::Read(Clock::Unset);
+    }
+    if !is_time(time) {
+        return ClockReading::Refused(Refusal::OutOfForm);
+    }
+    if !is_date(date) {
+        return ClockReading::Refused(Refusal::OutOfForm);
+    }
+    let t = DateTime {
+        year: two_at(date, 4),
+        month: two_at(date, 2),
+        day: two_at(date, 0),
+        hour: two_at(time, 0),
+        minute: two_at(time, 2),
+        second: two_at(time, 4),
+    };
+    ClockReading::Read(calendar::clock_of(t, 2000, 2099))
+}
+
+pub fn read_clock(s: &[u8]) -> ClockReading
+    ensures { λ r. ⌜ clockAnswer r ≡ clockOf (now (s .entry)) ⌝ }
+{
+    let judged = judge(s);
+    if let Judged::Refused(r) = judged {
+        return ClockReading::Refused(r);
+    }
+    let body = content::body(3, s);
+    clock_of(sentence::field(body, 1), sentence::field(body, 9))
+}
+
+// The two angles of a body, each with its hemisphere.
+fn position_of(body: &[u8]) -> PositionReading
+    ensures { λ r. ⌜ positionAnswer r ≡ bodyPosition (now (body .entry)) ⌝ }
+{
+    let Angle::Good(latitude) = super::angle::latitude(
+        sentence::field(body, 3),
+        sentence::field(body, 4),
+    ) else {
+        return PositionReading::Refused(Refusal::OutOfForm);
+    };
+    let Angle::Good(longitude) = super::angle::longitude(
+        sentence::field(body, 5),
+        sentence::field(body, 6),
+    ) else {
+        return PositionReading::Refused(Refusal::OutOfForm);
+    };
+    PositionReading::Read {
+        latitude,
+        longitude,
+    }
+}
+
+pub fn read_position(s: &[u8]) -> PositionReading
+    ensures { λ r. ⌜ positionAnswer r ≡ positionOf (now (s .entry)) ⌝ }
+{
+    let judged = judge(s);
+    if let Judged::Refused(r) = judged {
+        return PositionReading::Refused(r);
+    }
+    position_of(content::body(3, s))
+}
+
+// One letter, A or V.
+fn status_of(s: &[u8]) -> StatusReading
+    ensures { λ r. ⌜ statusAnswer r ≡ fieldStatus (now (s .entry)) ⌝ }
+{
+    if s.len() != 1 {
+        return StatusReading::Refused(Refusal::OutOfForm);
+    }
+    if s[0] == b'A' {
+        return StatusReading::Read(Status::Valid);
+    }
+    if s[0] == b'V' {
+        return StatusReading::Read(Status::Warning);
+    }
+    StatusReading::Refused(Refusal::OutOfForm)
+}
+
+pub fn read_status(s: &[u8]) -> StatusReading
+    ensures { λ r. ⌜ statusAnswer r ≡ statusOf (now (s .entry)) ⌝ }
+{
+    let judged = judge(s);
+    if let Judged::Refused(r) = judged {
+        return StatusReading::Refused(r);
+    }
+    status_of(sentence::field(content::body(3, s), 2))
+}

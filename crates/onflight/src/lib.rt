@@ -1,0 +1,6 @@
+// Fields of the OnFlight log's frames, at the offsets of the paper's table, counted from the start of the frame.
+pub mod position;
+pub mod ratio;
+pub mod sensor;
+pub mod status;
+pub mod time;

@@ -1,0 +1,2 @@
+-- What the proofs of `plars` use.
+pub mod PlarsLaws

@@ -1,0 +1,2 @@
+-- What the contracts of `plars` cite.
+pub mod Plars

@@ -1,0 +1,96 @@
+-- PLARS settings, read in one spelling only (docs/FORMATS.md, "NMEA content").
+use Prim.Native.Nat.{ℕ, zero, suc, _+_, _-_, _*_, _^_}
+use mathlib.Core.Bool.{Bool, cond, not, _&&_, _||_}
+use mathlib.Core.List.{List, [], _∷_}
+use lib.Dec.{leb, ltb, eqb}
+use lib.ListN.{length, getD, take, drop}
+use Rattle.content.specs.Answer.{Answer, given, refused, unless, refusalNumber}
+use Rattle.sentence.specs.declared.Digits.{Digits}
+use Rattle.sentence.specs.declared.Digits.the-variants.{Of, None}
+use Rattle.sentence.specs.Digits.{digitsOf}
+use Rattle.plars.specs.declared.Setting.{Setting}
+use Rattle.plars.specs.declared.SettingReading.{SettingReading}
+use Rattle.plars.specs.declared.SettingReading.the-variants.{Read, Refused}
+use Rattle.sentence.specs.Judge.{eqBytes, inSentence, fieldIn}
+
+-- PLARS, and three fields after it: source, parameter and value
+abbrev pub tag : List ℕ
+tag = 0x50 ∷ 0x4C ∷ 0x41 ∷ 0x52 ∷ 0x53 ∷ []
+
+-- a parameter: its name, its decimals, and its least and its largest value in steps of the last decimal
+pub record Rule : Type 0 where
+  pub name : List ℕ
+  pub decimals : ℕ
+  pub least : ℕ
+  pub most : ℕ
+
+abbrev pub rules : List Rule
+rules =
+    record { name = 0x4D ∷ 0x43 ∷ []; decimals = 1; least = 0; most = 99 }  -- MC 0.0 to 9.9
+    ∷ record { name = 0x42 ∷ 0x41 ∷ 0x4C ∷ []; decimals = 3; least = 0; most = 1000 }  -- BAL 0.000 to 1.000
+    ∷ record { name = 0x42 ∷ 0x55 ∷ 0x47 ∷ 0x53 ∷ []; decimals = 0; least = 0; most = 50 }  -- BUGS 0 to 50
+    ∷ record { name = 0x51 ∷ 0x4E ∷ 0x48 ∷ []; decimals = 1; least = 5000; most = 12000 }  -- QNH 500.0 to 1200.0
+    ∷ []
+
+-- no value is between 1 and 0
+abbrev pub noRule : Rule
+noRule = record { name = []; decimals = 0; least = 1; most = 0 }
+
+-- the rule of a parameter number
+abbrev pub ruleOf : ℕ → Rule
+ruleOf p = getD rules p noRule
+
+-- the place of a name in a list of rules, from 0; the list's length where it has none
+abbrev pub indexIn : List Rule → List ℕ → ℕ
+indexIn [] name = 0
+indexIn (r ∷ rs) name = cond (eqBytes name (r .name)) 0 (suc (indexIn rs name))
+
+-- the number of a parameter: 0 to 3 for MC, BAL, BUGS, QNH, and 4 for any other name
+unfoldable pub parameterOf : List ℕ → ℕ
+parameterOf name = indexIn rules name
+
+-- a whole part: not empty, and no leading zero before another digit
+unfoldable pub isWhole : List ℕ → Bool
+isWhole s = leb 1 (length s) && (leb (length s) 1 || not (eqb (getD s 0 0) 0x30))
+
+-- w and d decimals f, in steps of the last decimal
+abbrev pub steps : ℕ → Digits → Digits → Digits
+steps d None f = None
+steps d (Of w) None = None
+steps d (Of w) (Of f) = Of (w * 10 ^ d + f)
+
+-- a value with d decimals; with one or more, a point stands before them
+unfoldable pub valueOf : ℕ → List ℕ → Digits
+valueOf zero s = cond (isWhole s) (digitsOf s) None
+valueOf (suc d) s =
+    let k = length s - (d + 2) in
+    cond (leb (d + 3) (length s) && eqb (getD s k 0) 0x2E && isWhole (take k s))
+    (steps (suc d) (digitsOf (take k s)) (digitsOf (drop (k + 1) s)))
+    None
+
+abbrev pub noSetting : Setting
+noSetting = record { source = 0; parameter = 0; value = 0 }
+
+abbrev pub settingAnswer : SettingReading → Answer Setting
+settingAnswer (Read x) = given x
+settingAnswer (Refused r) = refused noSetting (refusalNumber r)
+
+-- L or H
+unfoldable pub isSource : List ℕ → Bool
+isSource s = eqb (length s) 1 && (eqb (getD s 0 0) 0x4C || eqb (getD s 0 0) 0x48)
+
+-- within the range of the rule
+abbrev pub ranged : ℕ → ℕ → Digits → Answer Setting
+ranged source p None = refused noSetting 9
+ranged source p (Of n) =
+    unless noSetting (leb (ruleOf p .least) n && leb n (ruleOf p .most)) 9
+    (given (record { source = source; parameter = p; value = n }))
+
+unfoldable pub fieldsSetting : List ℕ → List ℕ → List ℕ → Answer Setting
+fieldsSetting source name value =
+    unless noSetting (isSource source) 9
+    (unless noSetting (ltb (parameterOf name) 4) 9
+    (ranged (getD source 0 0) (parameterOf name) (valueOf (ruleOf (parameterOf name) .decimals) value)))
+
+unfoldable pub settingOf : List ℕ → Answer Setting
+settingOf s = inSentence noSetting tag 4 s (fieldsSetting (fieldIn s 1) (fieldIn s 2) (fieldIn s 3))

@@ -1,0 +1,85 @@
+-- `eqBytes` is the test that is true exactly of equal bytes; and what `judge` answered, carried into a reading.
+-- Assumes nothing.
+use Prim.Native.Nat.{ℕ}
+use mathlib.Core.Path.{_≡_, refl, sym, ap, ap₂, _∙_}
+use mathlib.Core.Bool.{Bool, true, false, cond}
+use mathlib.Core.List.{List, [], _∷_}
+use native.Mathlib.Omega.{arith}
+use lib.Dec.{T, eqb, eqb→eq}
+use lib.Ieee.Fits.{and-l, and-r}
+use lib.ListN.{length}
+use borrow.Author.Tests.{eq-eqb}
+use Rattle.framing.specs.Format.{nmea}
+use Rattle.content.specs.declared.Refusal.{Refusal}
+use Rattle.content.specs.declared.Refusal.the-variants.{NotOneFrame, OtherMessage, OutOfForm}
+use Rattle.content.specs.declared.Judged.{Judged}
+use Rattle.content.specs.declared.Judged.the-variants.{Done, Refused}
+use Rattle.content.specs.Answer.{Answer, refused, unless, refusalNumber}
+use Rattle.content.specs.Body.{isFrame, bodyOf}
+use Rattle.content.specs.Shared.{judgedNumber}
+use Rattle.sentence.specs.Fields.{fields}
+use Rattle.sentence.specs.Judge.{eqBytes, hasTag, inSentence, refusalOf}
+
+-- ---- the same bytes
+
+equal : (x y : List ℕ) → T (eqBytes x y) → x ≡ y
+equal [] [] t = refl
+equal [] (b ∷ y) t = absurd t
+equal (a ∷ x) [] t = absurd t
+equal (a ∷ x) (b ∷ y) t =
+    ap₂ (λ (c : ℕ) (l : List ℕ). c ∷ l) (eqb→eq a b (and-l (eqb a b) (eqBytes x y) t)) (equal x y (and-r (eqb a b) (eqBytes x y) t))
+
+reflexive : (x : List ℕ) → eqBytes x x ≡ true
+reflexive [] = refl
+reflexive (a ∷ x) = simp (eq-eqb a a refl, reflexive x)
+
+-- a test that is true exactly of equal bytes is `eqBytes`
+pub tested : (r : Bool) (x y : List ℕ) → (r ≡ true → x ≡ y) → (x ≡ y → r ≡ true) → r ≡ eqBytes x y
+tested true x y f g = sym (ap (λ (z : List ℕ). eqBytes x z) (sym (f refl)) ∙ reflexive x)
+tested false x y f g = go (eqBytes x y) (λ t. g (equal x y t))
+  where
+    go : (b : Bool) → (T b → false ≡ true) → false ≡ b
+    go true h = h tt
+    go false h = refl
+
+-- what `same` promises, where it answered b
+pub compared : {r b : Bool} {x y : List ℕ} → (r ≡ true → x ≡ y) × (x ≡ y → r ≡ true) → r ≡ b → eqBytes x y ≡ b
+compared e h = sym (tested _ _ _ (e .0) (e .1)) ∙ h
+
+-- ---- three tests in order: their number alone, and before an answer
+
+module _ {A : Type 0} (zeros : A) (answer : Answer A) where
+  refusing : (t u v : Bool) (n : ℕ) → (n ≡ 0 → ⊥) → n ≡ cond t (cond u (cond v 0 9) 8) 7
+      → refused zeros n ≡ unless zeros t 7 (unless zeros u 8 (unless zeros v 9 answer))
+  refusing true true true n h e = absurd (h e)
+  refusing true true false n h e = ap (refused zeros) e
+  refusing true false v n h e = ap (refused zeros) e
+  refusing false u v n h e = ap (refused zeros) e
+
+  passing : (t u v : Bool) (n : ℕ) → n ≡ 0 → n ≡ cond t (cond u (cond v 0 9) 8) 7
+      → answer ≡ unless zeros t 7 (unless zeros u 8 (unless zeros v 9 answer))
+  passing true true true n h e = refl
+  passing true true false n h e = absurd (omega arith)
+  passing true false v n h e = absurd (omega arith)
+  passing false u v n h e = absurd (omega arith)
+
+never-0 : (r : Refusal) → refusalNumber r ≡ 0 → ⊥
+never-0 NotOneFrame e = omega arith
+never-0 OtherMessage e = omega arith
+never-0 OutOfForm e = omega arith
+
+-- j is what `judge` answered
+module _ {A : Type 0} (zeros : A) (tag : List ℕ) (count : ℕ) (s : List ℕ) (answer : Answer A) (j : Judged) (e : judgedNumber j ≡ refusalOf tag count s) where
+  -- the reading hands the refusal on
+  pub judged-refused : (r : Refusal) → j ≡ Refused r → refused zeros (refusalNumber r) ≡ inSentence zeros tag count s answer
+  unfolding refusalOf
+  judged-refused r h =
+      refusing zeros answer (isFrame nmea s) (hasTag tag (bodyOf nmea s)) (eqb (length (fields (bodyOf nmea s))) count)
+      (refusalNumber r) (never-0 r) (ap judgedNumber (sym h) ∙ e)
+
+  -- none: the reading answers what it computes
+  pub judged-done : j ≡ Done → answer ≡ inSentence zeros tag count s answer
+  unfolding refusalOf
+  judged-done h =
+      passing zeros answer (isFrame nmea s) (hasTag tag (bodyOf nmea s)) (eqb (length (fields (bodyOf nmea s))) count)
+      (judgedNumber j) (ap judgedNumber h) e

@@ -1,0 +1,4 @@
+-- What the proofs of `sentence` use.
+pub mod FieldLaws
+pub mod DigitLaws
+pub mod JudgeLaws

@@ -1,0 +1,39 @@
+-- What the readings of every sentence judge first (docs/FORMATS.md, "NMEA content").
+use Prim.Native.Nat.{ℕ}
+use mathlib.Core.Bool.{Bool, true, false, cond, _&&_}
+use mathlib.Core.List.{List, [], _∷_}
+use lib.Dec.{eqb}
+use lib.ListN.{length}
+use Rattle.framing.specs.Format.{nmea}
+use Rattle.content.specs.Answer.{Answer, unless}
+use Rattle.content.specs.Body.{isFrame, bodyOf}
+use Rattle.sentence.specs.Fields.{fields, fieldAt}
+
+-- the same bytes
+abbrev pub eqBytes : List ℕ → List ℕ → Bool
+eqBytes [] [] = true
+eqBytes [] (y ∷ ys) = false
+eqBytes (x ∷ xs) [] = false
+eqBytes (x ∷ xs) (y ∷ ys) = eqb x y && eqBytes xs ys
+
+-- the tag is all up to the first comma
+unfoldable pub hasTag : List ℕ → List ℕ → Bool
+hasTag tag body = eqBytes (fieldAt body 0) tag
+
+-- a sentence with this tag and so many fields, the tag among them: else 7, 8 or 9
+abbrev pub inSentence : {A : Type 0} → A → List ℕ → ℕ → List ℕ → Answer A → Answer A
+inSentence zeros tag count s answer =
+    unless zeros (isFrame nmea s) 7
+    (unless zeros (hasTag tag (bodyOf nmea s)) 8
+    (unless zeros (eqb (length (fields (bodyOf nmea s))) count) 9
+    answer))
+
+-- field i of a sentence
+abbrev pub fieldIn : List ℕ → ℕ → List ℕ
+fieldIn s i = fieldAt (bodyOf nmea s) i
+
+-- ---- what `judge` promises: the number alone, 0 for none
+
+unfoldable pub refusalOf : List ℕ → ℕ → List ℕ → ℕ
+refusalOf tag count s =
+    cond (isFrame nmea s) (cond (hasTag tag (bodyOf nmea s)) (cond (eqb (length (fields (bodyOf nmea s))) count) 0 9) 8) 7

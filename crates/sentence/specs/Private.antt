@@ -1,0 +1,21 @@
+-- What the private search for a field promises. Nothing public rests on these definitions.
+use Prim.Native.Nat.{ℕ, _-_, _≤_}
+use mathlib.Core.List.{List}
+use mathlib.Core.Option.{Option, none, some}
+use lib.ListN.{length, take, drop, getElem?}
+use Rattle.sentence.specs.declared.Span.{Span}
+use Rattle.sentence.specs.declared.Span.the-variants.{At, Missing}
+use Rattle.sentence.specs.Fields.{fields}
+
+-- field i, from 0
+unfoldable pub fieldOf : List ℕ → ℕ → Option (List ℕ)
+fieldOf s i = getElem? (fields s) i
+
+-- the bytes that an answer stands for
+abbrev pub spanBytes : List ℕ → Span → Option (List ℕ)
+spanBytes s (At a e) = some (take (e - a) (drop a s))
+spanBytes s Missing = none
+
+abbrev pub Within : List ℕ → Span → Type 0
+Within s (At a e) = (a ≤ e) × (e ≤ length s)
+Within s Missing = Unit {0}

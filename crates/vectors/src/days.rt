@@ -1,0 +1,52 @@
+// The first and the last day of each month of some years, counted from 1970-01-01.
+use super::text::write;
+use super::text::write_number;
+use super::text::write_signed;
+use calendar::Clock;
+use calendar::DateTime;
+
+fn day(year: u16, month: u8, day: u8) {
+    let t = DateTime {
+        year: 0,
+        month,
+        day,
+        hour: 0,
+        minute: 0,
+        second: 0,
+    };
+    match calendar::clock_of(t, year, 2255) {
+        Clock::Good(seconds) => write_signed(seconds, 86_400),
+        Clock::Wrong(_) => write(b"wrong"),
+        Clock::Unset => write(b"unset"),
+    }
+}
+
+fn months(year: u16) {
+    let mut month: u8 = 1;
+    while month <= 12 {
+        let length = calendar::month_days(year as u32, month);
+        write(b"days ");
+        write_number(year as u64);
+        write(b"-");
+        write_number(month as u64);
+        write(b" has ");
+        write_number(length as u64);
+        write(b", first ");
+        day(year, month, 1);
+        write(b", last ");
+        day(year, month, length);
+        write(b"\n");
+        month += 1;
+    }
+}
+
+pub(crate) fn years() {
+    months(1900);
+    months(1970);
+    months(1999);
+    months(2000);
+    months(2023);
+    months(2024);
+    months(2100);
+    months(2225);
+}
