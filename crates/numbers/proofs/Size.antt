@@ -8,11 +8,11 @@ use native.Mathlib.Omega.{arith}
 use lib.IntN.{ℤ, pos, negsuc, negℤ, natAbs}
 use lib.Signed.{mag, nonNeg, ltZ}
 use lib.Pow.{pow-pos}
-use lib.Dec.{T, leb·suc-zero}
+use lib.Dec.{T, leb, leb·suc-zero}
 use mir.Syntax.{Width}
 use mir.Val.{bits, hbits, toZ, ofZ, Fits, SFits}
 use mir.ValLaws.{pow-bits}
-use mir.Facts.{toZ-ofZ, toZ-pos, toZ-neg}
+use mir.Facts.{toZ-ofZ, toZ-pos, toZ-neg, sfits-widen}
 use Rattle.numbers.specs.Low.{minus}
 
 clash : {X : Type 0} → _≡_ {A = Bool} true false → X
@@ -57,6 +57,10 @@ module _ (w : Width) where
 
   pub stays : {z : ℤ} → SFits w z → toZ w (ofZ w z) ≡ z
   stays f = toZ-ofZ {w = w} f
+
+  -- and it fits a wider type
+  pub wider : (v : Width) → T (leb (hbits w) (hbits v)) → {z : ℤ} → SFits w z → SFits v (toZ w (ofZ w z))
+  wider v h f = subst (SFits v) (sym (stays f)) (sfits-widen h f)
 
   -- what a call answered, z, of which its contract says y
   pub called : {z y : ℤ} → mag z < 2 ^ hbits w → z ≡ y → toZ w (ofZ w z) ≡ y
