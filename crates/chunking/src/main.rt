@@ -6,6 +6,8 @@ mod run;
 
 use captures::Line;
 use run::Run;
+use text::write;
+use text::write_u64;
 ghost use Prim.Native.Nat.{_≤_, _<_};
 
 const SIZES: [usize; 8] = [1, 2, 3, 7, 64, 275, 276, 4096];
@@ -47,25 +49,25 @@ fn closed(run: Run) -> Run {
 
 // Prints the numbers of the refusals that were given, and not how often, since refusals 1 and 4 are given with each piece.
 fn refusals(answers: [u32; 12], wrong: u32) {
-    print::text(b"refused");
+    write(b"refused");
     let mut k = 1;
     while k < 12 {
         if 0 < answers[k] {
-            print::number(b" ", k as u64);
+            write_u64(b" ", k as u64);
         }
         k += 1;
     }
     if 0 < wrong {
-        print::text(b", and calls that went otherwise than expected");
+        write(b", and calls that went otherwise than expected");
     }
-    print::text(b"\n");
+    write(b"\n");
 }
 
 // Feeds the line in pieces of one size, and answers the hash of all that came of it.
 fn one_size(format: u32, line: &[u8], size: usize) -> u64 {
-    print::number(b"format ", format as u64);
-    print::number(b", pieces of ", size as u64);
-    print::text(b"\n");
+    write_u64(b"format ", format as u64);
+    write_u64(b", pieces of ", size as u64);
+    write(b"\n");
     let run = crafted::refused(run::unknown(), format);
     let run = run::too_long(run::opened(run, format), 4372, 1);
     let run = run::reported(fed(run, line, size), b"pieces");
@@ -87,11 +89,11 @@ fn all_sizes(format: u32, line: &[u8]) {
         }
         i += 1;
     }
-    print::number(b"format ", format as u64);
+    write_u64(b"format ", format as u64);
     if all {
-        print::text(b": same\n");
+        write(b": same\n");
     } else {
-        print::text(b": different\n");
+        write(b": different\n");
     }
 }
 

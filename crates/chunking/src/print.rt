@@ -1,48 +1,17 @@
-// What is written to standard output.
+// The frames that are handed out, on standard output.
 use framing::Found;
-use libc::STDOUT_FILENO;
+use text::write;
+use text::write_ends;
+use text::write_u64;
 ghost use Prim.Native.Nat.{_≤_};
 ghost use lib.ListN.{length};
 
-pub(crate) fn text(bytes: &[u8]) {
-    io::write_all(STDOUT_FILENO, bytes);
-}
-
-// A name and a number.
-pub(crate) fn number(name: &[u8], n: u64) {
-    text(name);
-    io::print_decimal(STDOUT_FILENO, n);
-}
-
-// The hexadecimal digit of n % 16, in capitals.
-fn digit(n: u8) -> u8 {
-    let d = n % 16;
-    if d < 10 { d + b'0' } else { d + 55 }
-}
-
-fn hex(bytes: &[u8]) {
-    let mut i = 0;
-    while i < bytes.len() {
-        let b = bytes[i];
-        text(&[digit(b / 16), digit(b)]);
-        i += 1;
-    }
-}
-
 // A frame's length and its bytes; of more than 32 bytes the first 8 and the last 4.
 fn frame(bytes: &[u8]) {
-    let n = bytes.len();
-    number(b"frame ", n as u64);
-    text(b" ");
-    if n <= 32 {
-        hex(bytes);
-    } else {
-        let e = n - 4;
-        hex(&bytes[0..8]);
-        text(b"..");
-        hex(&bytes[e..]);
-    }
-    text(b"\n");
+    write_u64(b"frame ", bytes.len() as u64);
+    write(b" ");
+    write_ends(bytes);
+    write(b"\n");
 }
 
 // The length of the frame that s begins with, or 0.
@@ -62,7 +31,7 @@ pub(crate) fn frames(format: u32, bytes: &[u8]) {
     while at < bytes.len() {
         let n = frame_length(format, &bytes[at..]);
         if n == 0 {
-            text(b"no frame\n");
+            write(b"no frame\n");
             return;
         }
         let e = at + n;

@@ -2,6 +2,8 @@
 use super::print;
 use reader::Outcome;
 use reader::Reader;
+use text::write;
+use text::write_u64;
 ghost use Prim.Native.Nat.{_≤_};
 
 // A reader after some calls.
@@ -250,12 +252,12 @@ pub(crate) fn reported(run: Run, when: &[u8]) -> Run {
     let framed = run.reader.framed as u64;
     let skipped = run.reader.skipped as u64;
     let pending = run.reader.pending as u64;
-    print::text(when);
-    print::number(b": frames ", run.frames);
-    print::number(b", framed ", framed);
-    print::number(b", skipped ", skipped);
-    print::number(b", pending ", pending);
-    print::text(b"\n");
+    write(when);
+    write_u64(b": frames ", run.frames);
+    write_u64(b", framed ", framed);
+    write_u64(b", skipped ", skipped);
+    write_u64(b", pending ", pending);
+    write(b"\n");
     run.hash = hashed(
         hashed(hashed(hashed(run.hash, run.frames), framed), skipped),
         pending,

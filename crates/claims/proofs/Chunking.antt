@@ -33,7 +33,7 @@ after-pieces f d (aPiece bs room ∷ cs) p z = rw (z .0, ← append-assoc) (afte
 after-pieces f d (aClose room ∷ cs) p z = absurd p
 
 -- The machine of accepted pieces has all their bytes.
-machine-is : (n : ℕ) (cs : List Call) → T (known (formatOf n)) → AcceptedPieces n cs → machineAfter n cs ≡ delivering (delivery cs)
+pub machine-is : (n : ℕ) (cs : List Call) → T (known (formatOf n)) → AcceptedPieces n cs → machineAfter n cs ≡ delivering (delivery cs)
 machine-is n cs k a = after-pieces (formatOf n) [] cs (a .pieces) (rw (demand3 n cs k .answered) at (a .accepted))
 
 pub chunking : Chunking

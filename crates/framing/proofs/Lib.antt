@@ -3,6 +3,7 @@ pub mod FormatLaws
 pub mod FrameLaws
 pub mod HeadLaws
 pub mod Length
+pub mod LineLaws
 pub mod ReadingLaws
 pub mod ShapeLaws
 pub mod StartLaws

@@ -1,5 +1,5 @@
 // What a byte string begins with: a frame, a proper start of one, or neither.
-mod shape;
+pub mod shape;
 
 ghost use mathlib.Core.Path.{_≡_};
 ghost use Prim.Native.Nat.{_≤_};

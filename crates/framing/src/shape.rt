@@ -86,7 +86,7 @@ fn onflight(s: &[u8]) -> Scanned
 }
 
 // Whether a byte may stand in the body of a sentence.
-fn may_stand(b: u8) -> bool
+pub fn may_stand(b: u8) -> bool
     ensures { λ r. ⌜ r ≡ permitted b ⌝ }
 {
     if b < 0x20 {

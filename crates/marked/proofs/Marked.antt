@@ -16,7 +16,7 @@ use Rattle.framing.specs.Reading.{readSteps, read}
 use Rattle.framing.proofs.ShapeLaws.{counted, mgl-counts}
 use Rattle.calendar.specs.Calendar.{leap, leapDay, plainDays, monthDays, monthsTo, yearsTo, daysTo}
 use Rattle.calendar.specs.Clocks.{clockIn, clockOf}
-use Rattle.mgl.specs.Gyro.{scale, hundredthsOf}
+use Rattle.gyro.specs.Gyro.{scale, hundredthsOf}
 use Rattle.marked.specs.Rows.{All, table}
 
 infixr 20 _and_

@@ -15,7 +15,7 @@ use Rattle.calendar.specs.declared.Field.the-variants.{Day}
 use Rattle.calendar.specs.declared.Clock.{Clock}
 use Rattle.calendar.specs.declared.Clock.the-variants.{Good, Wrong}
 use Rattle.calendar.specs.Clocks.{clockOf}
-use Rattle.mgl.specs.Gyro.{hundredthsOf}
+use Rattle.gyro.specs.Gyro.{hundredthsOf}
 
 pub data Row : Type 0 where
   -- these bytes of a format want n bytes

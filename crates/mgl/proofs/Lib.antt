@@ -1,3 +1,2 @@
 -- Laws of the readings, and the proofs of the functions.
 pub mod FuelLaws
-pub mod GyroLaws

@@ -3,4 +3,3 @@ pub mod Header
 pub mod Gps
 pub mod Fuel
 pub mod Clock
-pub mod Gyro

@@ -2,7 +2,6 @@
 pub mod clock;
 pub mod fuel;
 pub mod gps;
-pub mod gyro;
 
 use content::Refusal;
 ghost use mathlib.Core.Bool.{_&&_};

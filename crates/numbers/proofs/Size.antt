@@ -69,3 +69,12 @@ module _ (w : Width) where
   pub minus-is : (n : ℕ) → n ≤ 2 ^ hbits w → minus w n ≡ negℤ (pos n)
   minus-is zero h = ap (toZ w) (ap (λ (k : ℕ). k % 2 ^ bits w) (sub-zero (2 ^ bits w)) ∙ mod-self (2 ^ bits w)) ∙ toZ-pos w (pow-pos (hbits w))
   minus-is (suc n) h = ap (toZ w) (mod-eq-of-lt {n = 2 ^ bits w - suc n} {m = 2 ^ bits w} (let p = pow-pos (bits w) in omega arith)) ∙ toZ-neg w n h
+
+  pub minus-fits : (n : ℕ) → n ≤ 2 ^ hbits w → SFits w (negℤ (pos n))
+  minus-fits zero h = record { sfits = pow-pos (hbits w) }
+  minus-fits (suc n) h = record { sfits = h }
+
+-- a number below 0 is minus its size
+pub minus-natAbs : (z : ℤ) → T (not (nonNeg z)) → negℤ (pos (natAbs z)) ≡ z
+minus-natAbs (pos n) t = absurd t
+minus-natAbs (negsuc n) t = refl

@@ -1,6 +1,6 @@
 -- Whole numbers as bytes, low byte first, unsigned and signed (docs/FORMATS.md, "Numbers").
-use mathlib.Core.List.{List}
-use Prim.Native.Nat.{ℕ, zero, suc, _+_, _-_, _*_, _%_, _^_}
+use mathlib.Core.List.{List, [], _∷_}
+use Prim.Native.Nat.{ℕ, zero, suc, _+_, _-_, _*_, _/_, _%_, _^_}
 use lib.IntN.{ℤ}
 use lib.ListN.{getD}
 use mir.Syntax.{Width}
@@ -10,6 +10,11 @@ use mir.Val.{toZ, bits}
 unfoldable pub low : ℕ → List ℕ → ℕ → ℕ
 low zero s at = 0
 low (suc k) s at = low k s at + getD s (at + k) 0 * 256 ^ k
+
+-- the k bytes of a number, low byte first
+unfoldable pub lowBytes : ℕ → ℕ → List ℕ
+lowBytes zero n = []
+lowBytes (suc k) n = n % 256 ∷ lowBytes k (n / 256)
 
 -- those bits in two's complement: n itself below half of 2 ^ bits, and n less 2 ^ bits from there on (`small` and `large` of
 -- proofs/Signed.antt)

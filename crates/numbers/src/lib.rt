@@ -1,11 +1,11 @@
-// Numbers of a slice at an offset, low byte first, and signed numbers from their bits. Every function is total: a byte past
+// Numbers of a slice at an offset, low byte first, and back; and signed numbers from their bits. Every function is total: a byte past
 // the end counts 0.
 ghost use mathlib.Core.Path.{_≡_};
 ghost use Prim.Native.Nat.{_+_};
 ghost use lib.ListN.{getD};
 ghost use lib.IntN.{natAbs};
 ghost use mir.Syntax.{w16, w32};
-ghost use Rattle.numbers.specs.Low.{low, signed, minus};
+ghost use Rattle.numbers.specs.Low.{low, lowBytes, signed, minus};
 
 // The byte i places after `at`.
 pub fn byte_at(s: &[u8], at: usize, i: usize) -> u8
@@ -34,6 +34,21 @@ pub fn u32_at(s: &[u8], at: usize) -> u32
         + byte_at(s, at, 1) as u32 * 0x100
         + byte_at(s, at, 2) as u32 * 0x1_0000
         + byte_at(s, at, 3) as u32 * 0x100_0000
+}
+
+// The four bytes of a number.
+pub fn low_bytes(n: u32) -> [u8; 4]
+    ensures { λ r. ⌜ r ≡ lowBytes 4 n ⌝ }
+{
+    let second = n / 0x100;
+    let third = second / 0x100;
+    let fourth = third / 0x100;
+    [
+        (n % 0x100) as u8,
+        (second % 0x100) as u8,
+        (third % 0x100) as u8,
+        (fourth % 0x100) as u8,
+    ]
 }
 
 // The signed number with the bits of n. (A plain cast asks that n be small.)
@@ -78,7 +93,19 @@ pub fn size16(z: i16) -> u16
     if z < 0 { (!z) as u16 + 1 } else { z as u16 }
 }
 
+pub fn size32(z: i32) -> u32
+    ensures { λ r. ⌜ r ≡ natAbs z ⌝ }
+{
+    if z < 0 { (!z) as u32 + 1 } else { z as u32 }
+}
+
 // Minus n.
+pub fn minus16(n: u16) -> i16
+    ensures { λ r. ⌜ r ≡ minus w16 n ⌝ }
+{
+    i16_of(std::num::wrapping_sub_u16(0, n))
+}
+
 pub fn minus32(n: u32) -> i32
     ensures { λ r. ⌜ r ≡ minus w32 n ⌝ }
 {

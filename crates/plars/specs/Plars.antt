@@ -1,4 +1,4 @@
--- PLARS settings, read in one spelling only (docs/FORMATS.md, "NMEA content").
+-- PLARS settings, in one spelling only (docs/FORMATS.md, "NMEA content").
 use Prim.Native.Nat.{ℕ, zero, suc, _+_, _-_, _*_, _^_}
 use mathlib.Core.Bool.{Bool, cond, not, _&&_, _||_}
 use mathlib.Core.List.{List, [], _∷_}
@@ -8,6 +8,7 @@ use Rattle.content.specs.Answer.{Answer, given, refused, unless, refusalNumber}
 use Rattle.sentence.specs.declared.Digits.{Digits}
 use Rattle.sentence.specs.declared.Digits.the-variants.{Of, None}
 use Rattle.sentence.specs.Digits.{digitsOf}
+use Rattle.plars.specs.declared.Form.{Form}
 use Rattle.plars.specs.declared.Setting.{Setting}
 use Rattle.plars.specs.declared.SettingReading.{SettingReading}
 use Rattle.plars.specs.declared.SettingReading.the-variants.{Read, Refused}
@@ -40,6 +41,10 @@ noRule = record { name = []; decimals = 0; least = 1; most = 0 }
 abbrev pub ruleOf : ℕ → Rule
 ruleOf p = getD rules p noRule
 
+-- a rule as the code holds it, with how many steps make 1
+abbrev pub formOf : Rule → Form
+formOf r = record { decimals = r .decimals; unit = 10 ^ r .decimals; least = r .least; most = r .most }
+
 -- the place of a name in a list of rules, from 0; the list's length where it has none
 abbrev pub indexIn : List Rule → List ℕ → ℕ
 indexIn [] name = 0
@@ -53,11 +58,11 @@ parameterOf name = indexIn rules name
 unfoldable pub isWhole : List ℕ → Bool
 isWhole s = leb 1 (length s) && (leb (length s) 1 || not (eqb (getD s 0 0) 0x30))
 
--- w and d decimals f, in steps of the last decimal
+-- a whole part w and decimals f, in steps of the last decimal, of which u make 1
 abbrev pub steps : ℕ → Digits → Digits → Digits
-steps d None f = None
-steps d (Of w) None = None
-steps d (Of w) (Of f) = Of (w * 10 ^ d + f)
+steps u None f = None
+steps u (Of w) None = None
+steps u (Of w) (Of f) = Of (w * u + f)
 
 -- a value with d decimals; with one or more, a point stands before them
 unfoldable pub valueOf : ℕ → List ℕ → Digits
@@ -65,7 +70,7 @@ valueOf zero s = cond (isWhole s) (digitsOf s) None
 valueOf (suc d) s =
     let k = length s - (d + 2) in
     cond (leb (d + 3) (length s) && eqb (getD s k 0) 0x2E && isWhole (take k s))
-    (steps (suc d) (digitsOf (take k s)) (digitsOf (drop (k + 1) s)))
+    (steps (10 ^ suc d) (digitsOf (take k s)) (digitsOf (drop (k + 1) s)))
     None
 
 abbrev pub noSetting : Setting
@@ -76,8 +81,8 @@ settingAnswer (Read x) = given x
 settingAnswer (Refused r) = refused noSetting (refusalNumber r)
 
 -- L or H
-unfoldable pub isSource : List ℕ → Bool
-isSource s = eqb (length s) 1 && (eqb (getD s 0 0) 0x4C || eqb (getD s 0 0) 0x48)
+unfoldable pub isSource : ℕ → Bool
+isSource b = eqb b 0x4C || eqb b 0x48
 
 -- within the range of the rule
 abbrev pub ranged : ℕ → ℕ → Digits → Answer Setting
@@ -88,7 +93,7 @@ ranged source p (Of n) =
 
 unfoldable pub fieldsSetting : List ℕ → List ℕ → List ℕ → Answer Setting
 fieldsSetting source name value =
-    unless noSetting (isSource source) 9
+    unless noSetting (eqb (length source) 1 && isSource (getD source 0 0)) 9
     (unless noSetting (ltb (parameterOf name) 4) 9
     (ranged (getD source 0 0) (parameterOf name) (valueOf (ruleOf (parameterOf name) .decimals) value)))
 

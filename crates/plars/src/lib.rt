@@ -3,9 +3,9 @@ use content::Judged;
 use content::Refusal;
 use sentence::Digits;
 ghost use mathlib.Core.Path.{_≡_};
-ghost use Prim.Native.Nat.{_<_, _≤_, _^_};
+ghost use Prim.Native.Nat.{_≤_, _^_};
 ghost use Rattle.sentence.specs.Digits.{digitsOf};
-ghost use Rattle.plars.specs.Plars.{ruleOf, parameterOf, isWhole, steps, valueOf, isSource, settingAnswer, ranged, fieldsSetting, settingOf};
+ghost use Rattle.plars.specs.Plars.{ruleOf, formOf, parameterOf, isWhole, steps, valueOf, isSource, settingAnswer, ranged, fieldsSetting, settingOf};
 
 // A setting: who sent it (L or H), the parameter (0 to 3 for MC, BAL, BUGS, QNH), and its value in steps of the last decimal.
 pub struct Setting {
@@ -38,20 +38,49 @@ fn parameter_of(s: &[u8]) -> u8
     4
 }
 
-// How a value is written: its decimals, and its least and its largest value in steps of the last one.
-struct Form(usize, u64, u64);
+// How a value is written: its decimals, how many steps of the last one make 1, and its least and its largest value in steps.
+pub struct Form {
+    pub decimals: usize,
+    pub unit: u64,
+    pub least: u64,
+    pub most: u64,
+}
 
-// The forms of MC, BAL, BUGS and QNH.
-fn form_of(parameter: u8) -> Form
-    requires { ⌜ parameter < 4 ⌝ }
-    ensures rule { λ r. ⌜ (r .0 ≡ ruleOf parameter .decimals) × (r .1 ≡ ruleOf parameter .least) × (r .2 ≡ ruleOf parameter .most) ⌝ }
-    ensures small { λ r. ⌜ (r .0 ≤ 3) × (r .2 ≤ 12000) ⌝ }
+// The forms of MC, BAL, BUGS and QNH; any other number takes no value.
+pub fn form_of(parameter: u8) -> Form
+    ensures { λ r. ⌜ r ≡ formOf (ruleOf parameter) ⌝ }
 {
     match parameter {
-        0 => Form(1, 0, 99),
-        1 => Form(3, 0, 1_000),
-        2 => Form(0, 0, 50),
-        _ => Form(1, 5_000, 12_000),
+        0 => Form {
+            decimals: 1,
+            unit: 10,
+            least: 0,
+            most: 99,
+        },
+        1 => Form {
+            decimals: 3,
+            unit: 1_000,
+            least: 0,
+            most: 1_000,
+        },
+        2 => Form {
+            decimals: 0,
+            unit: 1,
+            least: 0,
+            most: 50,
+        },
+        3 => Form {
+            decimals: 1,
+            unit: 10,
+            least: 5_000,
+            most: 12_000,
+        },
+        _ => Form {
+            decimals: 0,
+            unit: 1,
+            least: 1,
+            most: 0,
+        },
     }
 }
 
@@ -68,23 +97,10 @@ fn is_whole(s: &[u8]) -> bool
     s[0] != b'0'
 }
 
-// Ten to a number of decimals.
-fn power_of_10(n: usize) -> u64
-    requires { ⌜ n ≤ 3 ⌝ }
-    ensures { λ r. ⌜ r ≡ 10 ^ n ⌝ }
-{
-    match n {
-        0 => 1,
-        1 => 10,
-        2 => 100,
-        _ => 1_000,
-    }
-}
-
-// A whole part and its decimals, in steps of the last one.
-fn steps_of(whole: &[u8], fraction: &[u8], decimals: usize) -> Digits
-    requires { ⌜ decimals ≤ 3 ⌝ }
-    ensures { λ r. ⌜ r ≡ steps decimals (digitsOf (now (whole .entry))) (digitsOf (now (fraction .entry))) ⌝ }
+// A whole part and its decimals, in steps of the last one, of which so many make 1.
+fn steps_of(whole: &[u8], fraction: &[u8], unit: u64) -> Digits
+    requires { ⌜ unit ≤ 1000 ⌝ }
+    ensures { λ r. ⌜ r ≡ steps unit (digitsOf (now (whole .entry))) (digitsOf (now (fraction .entry))) ⌝ }
 {
     let Digits::Of(w) = sentence::number_of(whole) else {
         return Digits::None;
@@ -92,24 +108,24 @@ fn steps_of(whole: &[u8], fraction: &[u8], decimals: usize) -> Digits
     let Digits::Of(f) = sentence::number_of(fraction) else {
         return Digits::None;
     };
-    Digits::Of(w * power_of_10(decimals) + f)
+    Digits::Of(w * unit + f)
 }
 
-// A value with so many decimals, in steps of the last one. With one or more, a point stands before them.
-fn value_of(s: &[u8], decimals: usize) -> Digits
-    requires { ⌜ decimals ≤ 3 ⌝ }
-    ensures { λ r. ⌜ r ≡ valueOf decimals (now (s .entry)) ⌝ }
+// A value in steps of its last decimal. With one decimal or more, a point stands before them.
+fn value_of(s: &[u8], form: Form) -> Digits
+    requires { ⌜ (form .decimals ≤ 3) × (form .unit ≡ 10 ^ form .decimals) ⌝ }
+    ensures { λ r. ⌜ r ≡ valueOf (form .decimals) (now (s .entry)) ⌝ }
 {
-    if decimals == 0 {
+    if form.decimals == 0 {
         if !is_whole(s) {
             return Digits::None;
         }
         return sentence::number_of(s);
     }
-    if s.len() < decimals + 2 {
+    if s.len() < form.decimals + 2 {
         return Digits::None;
     }
-    let k = s.len() - decimals - 1;
+    let k = s.len() - form.decimals - 1;
     if s[k] != b'.' {
         return Digits::None;
     }
@@ -117,35 +133,31 @@ fn value_of(s: &[u8], decimals: usize) -> Digits
         return Digits::None;
     }
     let f = k + 1;
-    steps_of(&s[0..k], &s[f..], decimals)
+    steps_of(&s[0..k], &s[f..], form.unit)
 }
 
 // L or H.
-fn is_source(s: &[u8]) -> bool
-    ensures { λ r. ⌜ r ≡ isSource (now (s .entry)) ⌝ }
+pub fn is_source(b: u8) -> bool
+    ensures { λ r. ⌜ r ≡ isSource b ⌝ }
 {
-    if s.len() != 1 {
-        return false;
-    }
-    if s[0] == b'L' {
+    if b == b'L' {
         return true;
     }
-    s[0] == b'H'
+    b == b'H'
 }
 
-// A setting of a known parameter: its value has the parameter's form and is in its range.
+// A setting of a parameter: its value has the parameter's form and is in its range.
 fn ranged_setting(source: u8, parameter: u8, value: &[u8]) -> SettingReading
-    requires { ⌜ parameter < 4 ⌝ }
     ensures { λ r. ⌜ settingAnswer r ≡ ranged source parameter (valueOf (ruleOf parameter .decimals) (now (value .entry))) ⌝ }
 {
-    let Form(decimals, least, most) = form_of(parameter);
-    let Digits::Of(n) = value_of(value, decimals) else {
+    let form = form_of(parameter);
+    let Digits::Of(n) = value_of(value, form) else {
         return SettingReading::Refused(Refusal::OutOfForm);
     };
-    if n < least {
+    if n < form.least {
         return SettingReading::Refused(Refusal::OutOfForm);
     }
-    if most < n {
+    if form.most < n {
         return SettingReading::Refused(Refusal::OutOfForm);
     }
     SettingReading::Read(Setting {
@@ -159,7 +171,10 @@ fn ranged_setting(source: u8, parameter: u8, value: &[u8]) -> SettingReading
 fn setting_of(source: &[u8], name: &[u8], value: &[u8]) -> SettingReading
     ensures { λ r. ⌜ settingAnswer r ≡ fieldsSetting (now (source .entry)) (now (name .entry)) (now (value .entry)) ⌝ }
 {
-    if !is_source(source) {
+    if source.len() != 1 {
+        return SettingReading::Refused(Refusal::OutOfForm);
+    }
+    if !is_source(source[0]) {
         return SettingReading::Refused(Refusal::OutOfForm);
     }
     let parameter = parameter_of(name);

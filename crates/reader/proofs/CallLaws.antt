@@ -8,6 +8,8 @@ use lib.Dec.{ltb, eqb}
 use lib.ListN.{length, length-append, length-take}
 use lib.Seq.{length-take-le}
 use borrow.Author.Tests.{ne-eqb, eqb-true, ltb-false}
+use Rattle.room.specs.Room.{lay}
+use Rattle.room.proofs.RoomLaws.{length-lay}
 use Rattle.framing.specs.Format.{known, formatOf, pendingBound}
 use Rattle.framing.specs.Reading.{Mode, ongoing, closing, Reading, read, joined}
 use Rattle.framing.proofs.TestLaws.{past}
@@ -17,10 +19,9 @@ use Rattle.reader.specs.declared.Outcome.{Outcome}
 use Rattle.reader.specs.declared.walk.Walked.{Walked}
 use Rattle.reader.specs.State.{sum, pendingBytes}
 use Rattle.reader.specs.Refusal.{broken, refusal}
-use Rattle.reader.specs.Calls.{Call, aPiece, aClose, bytesOf, roomOf, closes, returned, lay, modeOf, gain, taken, refusedOf, refused, serve}
+use Rattle.reader.specs.Calls.{Call, aPiece, aClose, bytesOf, roomOf, closes, returned, modeOf, gain, taken, refusedOf, refused, serve}
 use Rattle.reader.specs.Private.{countsOf, renewedOf, Fits}
 use Rattle.reader.proofs.JudgeLaws.{bound-most}
-use Rattle.reader.proofs.RoomLaws.{length-lay}
 use Rattle.reader.proofs.StepLaws.{frames-most}
 
 -- ---- what an accepted call's judgement says

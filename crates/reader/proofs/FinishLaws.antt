@@ -4,7 +4,9 @@ use mathlib.Core.Path.{_≡_, refl, sym, ap, _∙_}
 use mathlib.Core.List.{List, [], _∷_, _++_, append-nil}
 use native.Mathlib.Omega.{arith}
 use lib.ListN.{length, take, drop, length-drop, drop-of-length-le}
-use lib.Seq.{paste, length-take-le, take-at, drop-at}
+use lib.Seq.{length-take-le, take-at, drop-at}
+use Rattle.room.specs.Room.{lay, copied}
+use Rattle.room.proofs.RoomLaws.{start-copied, lay-behind}
 use Rattle.framing.specs.declared.Reason.{Reason}
 use Rattle.framing.specs.declared.Reason.the-variants.{RanOut}
 use Rattle.framing.specs.declared.Found.{Found}
@@ -14,9 +16,8 @@ use Rattle.framing.specs.Frame.{front}
 use Rattle.framing.specs.Reading.{closing, framed, skipped, read, joined}
 use Rattle.framing.proofs.ReadingLaws.{read-nil, closing-rest, balance}
 use Rattle.reader.specs.declared.walk.Walked.{Walked}
-use Rattle.reader.specs.Calls.{lay}
 use Rattle.reader.specs.Private.{frameLength, countsOf}
-use Rattle.reader.proofs.RoomLaws.{tail-part, lay-paste, lay-behind}
+use Rattle.reader.proofs.RoomLaws.{tail-part}
 use Rattle.reader.proofs.StepLaws.{Step, frame-inside, frame-step, skip-step, close-step, frames-most}
 
 -- what going through xs to the end answers and leaves
@@ -74,14 +75,14 @@ module _ (f : Format) (xs room : List ℕ) (w : Walked) where
       let g : Finished f (drop 1 xs) room w room′ = rw (tail-part xs 1) at rest in
       rw (s .step .reads, g .0) (same (omega arith) (omega arith) (omega arith), g .1)
 
-  pub finish-frame : (n : ℕ) (room₁ ys : List ℕ) → front f xs ≡ Frame n → room₁ ≡ paste room 0 (take n xs) (length (take n xs))
+  pub finish-frame : (n : ℕ) (room₁ ys : List ℕ) → length xs ≤ length room → front f xs ≡ Frame n → room₁ ≡ copied (take n xs) room 0
       → Finished f (take (length xs - n) (drop n xs)) (take (length room₁ - n) (drop n room₁)) w ys
       → Finished f xs room (record { framed = w .framed + n; skipped = w .skipped; frames = w .frames + 1 })
       (take n room₁ ++ (ys ++ drop (length room₁ - n) (drop n room₁)))
-  finish-frame n room₁ ys e put rest =
+  finish-frame n room₁ ys h e put rest =
       let s = frame-step closing f xs n e in
       let l : length (take n xs) ≡ n = length-take-le n xs (s .inside) in
-      let p : room₁ ≡ take n xs ++ drop (length (take n xs)) room = put ∙ lay-paste [] (take n xs) room 0 refl in
+      let p : room₁ ≡ take n xs ++ drop (length (take n xs)) room = put ∙ start-copied (take n xs) room (omega (arith, l, s .inside)) in
       let back : drop n room₁ ≡ drop (length (take n xs)) room =
       ap (drop n) p ∙ drop-at (take n xs) (drop (length (take n xs)) room) n l in
       let fore : take n room₁ ≡ take n xs = ap (take n) p ∙ take-at (take n xs) (drop (length (take n xs)) room) n l in

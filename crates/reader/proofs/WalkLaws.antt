@@ -4,16 +4,16 @@ use mathlib.Core.Path.{_≡_, refl, sym, ap, _∙_, subst}
 use mathlib.Core.List.{List, [], _∷_, _++_, append-assoc, append-nil}
 use native.Mathlib.Omega.{arith}
 use lib.ListN.{length, take, drop, length-drop}
-use lib.Seq.{paste, length-take-le, drop-drop}
+use lib.Seq.{length-take-le, drop-drop}
+use Rattle.room.specs.Room.{lay, copied}
+use Rattle.room.proofs.RoomLaws.{length-lay, lay-copied}
 use Rattle.framing.specs.declared.Reason.{Reason}
 use Rattle.framing.specs.declared.Found.the-variants.{Frame, Start, Neither}
 use Rattle.framing.specs.Format.{Format}
 use Rattle.framing.specs.Frame.{front}
 use Rattle.framing.specs.Reading.{ongoing, Event, framed, skipped, read, joined, total, oneFrame, framedBytes, skippedBytes}
 use Rattle.framing.proofs.ReadingLaws.{total-append, joined-append, length-joined}
-use Rattle.reader.specs.Calls.{lay}
 use Rattle.reader.specs.Private.{countsOf}
-use Rattle.reader.proofs.RoomLaws.{length-lay, lay-paste}
 use Rattle.reader.proofs.StepLaws.{Step, frame-inside, frame-step, skip-step, start-stops}
 
 -- The code stands at place at of the line, and the events before it are behind: their frames are laid in the room.
@@ -84,19 +84,22 @@ module _ (f : Format) (line room₀ room : List ℕ) (at handed frames : ℕ) (w
       (subst (λ (k : ℕ). Walk f line room₀ room (at + 1) k (frames + 0)) (omega arith)
       (walk-on 1 (skipped r) room s (w .laid ∙ ap (λ (bs : List ℕ). lay bs room₀) (sym (append-nil (joined (w .events)))))))
 
-  pub walk-frame : (n : ℕ) (src room′ : List ℕ) → front f (drop at line) ≡ Frame n → src ≡ take n (drop at line)
-      → room′ ≡ paste room handed src (length src) → Walk f line room₀ room′ (at + n) (handed + n) (frames + 1)
-  walk-frame n src room′ e part put =
-      let s = frame-step ongoing f (drop at line) n e in
-      subst (λ (k : ℕ). Walk f line room₀ room′ (at + n) (handed + k) (frames + 1)) (length-take-le n (drop at line) (s .inside))
-      (walk-on n (framed (take n (drop at line))) room′ s
-      (put
-      ∙ rw (w .laid, part, lay-paste (joined (w .events)) (take n (drop at line)) room₀ handed laid-length)
-      (ap (λ (bs : List ℕ). lay (joined (w .events) ++ bs) room₀) (sym (append-nil (take n (drop at line)))))))
-
   -- a frame ends in the line
   pub frame-ends : (n : ℕ) → front f (drop at line) ≡ Frame n → (0 < n) × (at + n ≤ length line)
   frame-ends n e = let i = frame-inside f (drop at line) n e in (i .0, omega (arith, i .1, w .inside, length-drop at line))
+
+  pub walk-frame : (n : ℕ) (src room′ : List ℕ) → length line ≤ length room₀ → front f (drop at line) ≡ Frame n → src ≡ take n (drop at line)
+      → room′ ≡ copied src room handed → Walk f line room₀ room′ (at + n) (handed + n) (frames + 1)
+  walk-frame n src room′ fit e part put =
+      let s = frame-step ongoing f (drop at line) n e in
+      let frame = take n (drop at line) in
+      let l : length frame ≡ n = length-take-le n (drop at line) (s .inside) in
+      let h : handed + length frame ≤ length room₀ = omega (arith, handed-most, frame-ends n e .1) in
+      subst (λ (k : ℕ). Walk f line room₀ room′ (at + n) (handed + k) (frames + 1)) l
+      (walk-on n (framed frame) room′ s
+      (put
+      ∙ rw (w .laid, part, lay-copied (joined (w .events)) frame room₀ handed laid-length h)
+      (ap (λ (bs : List ℕ). lay (joined (w .events) ++ bs) room₀) (sym (append-nil frame)))))
 
   -- At a start the reading stops.
   pub walk-end : front f (drop at line) ≡ Start

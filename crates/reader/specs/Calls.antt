@@ -3,7 +3,8 @@ use Prim.Native.Nat.{ℕ, _+_}
 use mathlib.Core.Bool.{Bool, true, false, cond}
 use mathlib.Core.List.{List, [], _++_}
 use lib.Dec.{eqb}
-use lib.ListN.{length, drop}
+use lib.ListN.{length}
+use Rattle.room.specs.Room.{lay}
 use Rattle.framing.specs.Format.{formatOf}
 use Rattle.framing.specs.Reading.{Mode, ongoing, closing, Reading, read, joined, frameCount, framedCount, skippedCount, pendingCount}
 use Rattle.reader.specs.declared.Reader.{Reader as State}
@@ -36,10 +37,6 @@ pub record Returned : Type 0 where
 
 abbrev pub returned : Outcome → List ℕ → Returned
 returned o room = record { outcome = o; room = room }
-
--- bytes laid from the start of a room; the later room is unchanged
-abbrev pub lay : List ℕ → List ℕ → List ℕ
-lay bs room = bs ++ drop (length bs) room
 
 -- the reading of a line that is open, and of one that is closed
 abbrev pub modeOf : Bool → Mode

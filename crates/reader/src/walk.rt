@@ -5,12 +5,11 @@ ghost use mathlib.Core.Path.{_≡_};
 ghost use Prim.Native.Nat.{_+_, _≤_};
 ghost use mathlib.Core.List.{_++_};
 ghost use lib.ListN.{length, take};
-ghost use lib.Seq.{paste};
+ghost use Rattle.room.specs.Room.{lay};
 ghost use Rattle.framing.specs.Format.{formatOf};
 ghost use Rattle.framing.specs.Frame.{front};
 ghost use Rattle.framing.specs.Reading.{ongoing, closing, read, joined};
 ghost use Rattle.reader.specs.State.{padded};
-ghost use Rattle.reader.specs.Calls.{lay};
 ghost use Rattle.reader.specs.Private.{frameLength, countsOf};
 
 // The numbers of a reading: the bytes framed, those skipped, and the frames.
@@ -20,25 +19,13 @@ pub(crate) struct Walked {
     pub(crate) frames: usize,
 }
 
-// Copies src into room from place at on.
-fn copy_at(src: &[u8], room: &mut [u8], at: usize)
-    requires { ⌜ at + length (now src) ≤ length (now room) ⌝ }
-    ensures { λ _. ⌜ now (room .exit) ≡ paste (now (room .entry)) at (now (src .entry)) (length (now (src .entry))) ⌝ }
-{
-    let mut j = 0;
-    while j < src.len() {
-        room[at + j] = src[j];
-        j += 1;
-    }
-}
-
 // The pending bytes and then those of a piece, laid in work; answers how many they are.
 pub(crate) fn join(held: [u8; Reader::HELD], pending: usize, bytes: &[u8], work: &mut [u8]) -> usize
     requires { ⌜ (pending ≤ 275) × (pending + length (now bytes) ≤ length (now work)) ⌝ }
     ensures { λ n. ⌜ (n ≡ pending + length (now (bytes .entry))) × (take n (now (work .exit)) ≡ take pending held ++ now (bytes .entry)) ⌝ }
 {
-    copy_at(&held[..pending], work, 0);
-    copy_at(bytes, work, pending);
+    room::copy(&held[..pending], work, 0);
+    room::copy(bytes, work, pending);
     pending + bytes.len()
 }
 
@@ -48,7 +35,7 @@ pub(crate) fn keep(rest: &[u8]) -> [u8; Reader::HELD]
     ensures { λ held. ⌜ held ≡ padded (now (rest .entry)) ⌝ }
 {
     let mut held = [0u8; Reader::HELD];
-    copy_at(rest, &mut held, 0);
+    room::copy(rest, &mut held, 0);
     held
 }
 
@@ -65,7 +52,7 @@ pub(crate) fn walk(format: u32, line: &[u8], room: &mut [u8]) -> Walked
         match framing::front(format, &line[at..]) {
             Found::Frame(n) => {
                 let e = at + n;
-                copy_at(&line[at..e], room, framed);
+                room::copy(&line[at..e], room, framed);
                 framed += n;
                 frames += 1;
                 at = e;
@@ -117,7 +104,7 @@ pub(crate) fn finish(format: u32, s: &[u8], room: &mut [u8]) -> Walked
             frames: w.frames,
         };
     }
-    copy_at(&s[..n], room, 0);
+    room::copy(&s[..n], room, 0);
     let w = finish(format, &s[n..], &mut room[n..]);
     Walked {
         framed: w.framed + n,

@@ -1,16 +1,16 @@
 // The readings of MGL frames: header, GPS, fuel tanks and clock; and gyro numbers.
-use super::answer;
 use super::changed;
 use super::frames;
-use super::text::write;
-use super::text::write_i16;
-use super::text::write_i32;
-use super::text::write_u8;
-use super::text::write_u16;
 use mgl::HeaderReading;
 use mgl::fuel::TankReading;
 use mgl::gps::Gps;
 use mgl::gps::GpsReading;
+use text::answer;
+use text::write;
+use text::write_i16;
+use text::write_i32;
+use text::write_u8;
+use text::write_u16;
 
 fn header(s: &[u8]) {
     match mgl::read_header(s) {
@@ -121,7 +121,7 @@ fn clock(s: &[u8]) {
 
 fn gyro(v: i16) {
     write_i16(b"gyro ", v);
-    write_i32(b" is ", mgl::gyro::hundredths(v));
+    write_i32(b" is ", gyro::hundredths(v));
     write(b"\n");
 }
 

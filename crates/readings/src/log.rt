@@ -1,12 +1,6 @@
 // The readings of OnFlight frames.
-use super::answer;
 use super::changed;
 use super::frames;
-use super::text::write;
-use super::text::write_f64;
-use super::text::write_i16;
-use super::text::write_i32;
-use super::text::write_u8;
 use content::Judged;
 use content::PositionReading;
 use onflight::position::AltitudeReading;
@@ -14,6 +8,12 @@ use onflight::position::FixReading;
 use onflight::ratio::RatioReading;
 use onflight::sensor::AxesReading;
 use onflight::sensor::VoltagesReading;
+use text::answer;
+use text::write;
+use text::write_f64;
+use text::write_i16;
+use text::write_i32;
+use text::write_u8;
 
 fn status(s: &[u8]) {
     let reading = onflight::status::read_status(s);

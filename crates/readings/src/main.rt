@@ -1,11 +1,9 @@
 // Every reading of MGL and OnFlight frames, on handmade frames. The file `stdout`, to which the output is held, was not made by
 // this program: the same bytes were unpacked with Python's struct, zlib and datetime, in the order of the two papers' tables.
-mod answer;
 mod changed;
 mod feed;
 mod frames;
 mod log;
-mod text;
 
 fn main() {
     feed::readings();

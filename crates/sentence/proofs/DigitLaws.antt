@@ -48,13 +48,12 @@ below (b ∷ s) n m t h =
     let p : 10 * 10 ^ length s ≡ 10 ^ suc (length s) = mul-comm 10 (10 ^ length s) ∙ sym (pow-suc 10 (length s)) in
     subst (λ (k : ℕ). foldl nextDigit (nextDigit n b) s < k) (mul-assoc m 10 (10 ^ length s) ∙ ap (λ (k : ℕ). m * k) p) u
 
-pub digits-below : (s : List ℕ) (n : ℕ) → digitsOf s ≡ Of n → n < 10 ^ length s
+pub decimal-below : (s : List ℕ) → allDigits s ≡ true → decimal s < 10 ^ length s
 unfolding decimal
-digits-below s n e =
-    let w = written s n e in
-    let b = below s 0 1 (subst T (sym (w .digits)) tt) (omega arith) in
-    let v : foldl nextDigit 0 s ≡ n = w .value in
-    omega arith
+decimal-below s e = let b = below s 0 1 (subst T (sym e) tt) (omega arith) in omega arith
+
+pub digits-below : (s : List ℕ) (n : ℕ) → digitsOf s ≡ Of n → n < 10 ^ length s
+digits-below s n e = let w = written s n e in rw (w .value) at (decimal-below s (w .digits))
 
 -- a number of at most j digits
 pub few-digits : (s : List ℕ) (n j : ℕ) → Of n ≡ digitsOf s → length s ≤ j → n < 10 ^ j

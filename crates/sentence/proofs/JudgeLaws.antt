@@ -22,7 +22,7 @@ use Rattle.sentence.specs.Judge.{eqBytes, hasTag, inSentence, refusalOf}
 
 -- ---- the same bytes
 
-equal : (x y : List ℕ) → T (eqBytes x y) → x ≡ y
+pub equal : (x y : List ℕ) → T (eqBytes x y) → x ≡ y
 equal [] [] t = refl
 equal [] (b ∷ y) t = absurd t
 equal (a ∷ x) [] t = absurd t

@@ -2,3 +2,4 @@
 pub mod FieldLaws
 pub mod DigitLaws
 pub mod JudgeLaws
+pub mod JoinLaws

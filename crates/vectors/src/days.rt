@@ -1,9 +1,10 @@
 // The first and the last day of each month of some years, counted from 1970-01-01.
-use super::text::write;
-use super::text::write_number;
-use super::text::write_signed;
 use calendar::Clock;
 use calendar::DateTime;
+use text::write;
+use text::write_u8;
+use text::write_u16;
+use text::write_units;
 
 fn day(year: u16, month: u8, day: u8) {
     let t = DateTime {
@@ -15,7 +16,7 @@ fn day(year: u16, month: u8, day: u8) {
         second: 0,
     };
     match calendar::clock_of(t, year, 2255) {
-        Clock::Good(seconds) => write_signed(seconds, 86_400),
+        Clock::Good(seconds) => write_units(b"", seconds, 86_400),
         Clock::Wrong(_) => write(b"wrong"),
         Clock::Unset => write(b"unset"),
     }
@@ -25,12 +26,9 @@ fn months(year: u16) {
     let mut month: u8 = 1;
     while month <= 12 {
         let length = calendar::month_days(year as u32, month);
-        write(b"days ");
-        write_number(year as u64);
-        write(b"-");
-        write_number(month as u64);
-        write(b" has ");
-        write_number(length as u64);
+        write_u16(b"days ", year);
+        write_u8(b"-", month);
+        write_u8(b" has ", length);
         write(b", first ");
         day(year, month, 1);
         write(b", last ");

@@ -1,69 +1,61 @@
 // A sentence field by field, and what the readings of RMC and PLARS say of it.
-use super::text::write;
-use super::text::write_number;
-use super::text::write_signed;
 use calendar::Clock;
 use content::ClockReading;
 use content::PositionReading;
-use content::Refusal;
 use nmea::rmc::Status;
 use nmea::rmc::StatusReading;
 use plars::SettingReading;
-
-fn refused(r: Refusal) {
-    write(b"refused ");
-    write_number(content::number_of(r) as u64);
-}
+use text::answer::refused;
+use text::write;
+use text::write_i32;
+use text::write_i64;
+use text::write_u8;
+use text::write_u32;
+use text::write_u64;
 
 fn clock(line: &[u8]) {
-    write(b"  clock ");
     match nmea::rmc::read_clock(line) {
         ClockReading::Read(c) => match c {
-            Clock::Unset => write(b"unset"),
-            Clock::Good(seconds) => write_signed(seconds, 1),
-            Clock::Wrong(_) => write(b"wrong"),
+            Clock::Unset => write(b"  clock unset"),
+            Clock::Good(seconds) => write_i64(b"  clock ", seconds),
+            Clock::Wrong(_) => write(b"  clock wrong"),
         },
-        ClockReading::Refused(r) => refused(r),
+        ClockReading::Refused(r) => refused(b"  clock ", r),
     }
 }
 
 fn position(line: &[u8]) {
-    write(b", position ");
     match nmea::rmc::read_position(line) {
         PositionReading::Read {
             latitude,
             longitude,
         } => {
-            write_signed(latitude as i64, 1);
-            write(b" ");
-            write_signed(longitude as i64, 1);
+            write_i32(b", position ", latitude);
+            write_i32(b" ", longitude);
         }
-        PositionReading::Refused(r) => refused(r),
+        PositionReading::Refused(r) => refused(b", position ", r),
     }
 }
 
 fn status(line: &[u8]) {
-    write(b", status ");
     match nmea::rmc::read_status(line) {
         StatusReading::Read(s) => match s {
-            Status::Valid => write(b"A"),
-            Status::Warning => write(b"V"),
+            Status::Valid => write(b", status A"),
+            Status::Warning => write(b", status V"),
         },
-        StatusReading::Refused(r) => refused(r),
+        StatusReading::Refused(r) => refused(b", status ", r),
     }
 }
 
 fn setting(line: &[u8]) {
-    write(b", setting ");
     match plars::read_setting(line) {
         SettingReading::Read(x) => {
+            write(b", setting ");
             write(&[x.source]);
-            write(b" ");
-            write_number(x.parameter as u64);
-            write(b" ");
-            write_number(x.value as u64);
+            write_u8(b" ", x.parameter);
+            write_u32(b" ", x.value);
         }
-        SettingReading::Refused(r) => refused(r),
+        SettingReading::Refused(r) => refused(b", setting ", r),
     }
 }
 
@@ -73,8 +65,7 @@ pub(crate) fn write_fields(line: &[u8]) {
     let n = sentence::field_count(body);
     let mut i: usize = 0;
     while i < n {
-        write(b"  ");
-        write_number(i as u64);
+        write_u64(b"  ", i as u64);
         write(b" '");
         write(sentence::field(body, i));
         write(b"'\n");

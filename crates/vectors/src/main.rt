@@ -2,14 +2,15 @@
 // the sentences field by field. Then the days of some years.
 mod days;
 mod fields;
-mod text;
+mod words;
 
 use framing::Found;
 use text::digit;
 use text::write;
-use text::write_byte;
-use text::write_number;
-use text::write_word;
+use text::write_hex;
+use text::write_u64;
+use words::write_half;
+use words::write_word;
 
 fn write_verdict(same: bool) {
     if same {
@@ -38,11 +39,9 @@ fn fletcher(text: &[u8], published: u32) {
     write(b"fletcher16 '");
     write(text);
     write(b"' published ");
-    write_byte(published / 256);
-    write_byte(published);
+    write_half(published);
     write(b", computed ");
-    write_byte(computed / 256);
-    write_byte(computed);
+    write_half(computed);
     write_verdict(published == computed);
     write(b"\n");
 }
@@ -55,7 +54,7 @@ fn sentence(line: &[u8]) {
         return;
     }
     let e = n - 5;
-    let x = checksum::xor8(&line[1..e]) as u32;
+    let x = checksum::xor8(&line[1..e]);
     let high = digit(x / 16) == line[e + 1];
     let low = digit(x) == line[e + 2];
     write(b"nmea ");
@@ -63,12 +62,11 @@ fn sentence(line: &[u8]) {
     write(b" published ");
     write(&line[e + 1..n - 2]);
     write(b", computed ");
-    write_byte(x);
+    write_hex(&[x]);
     write_verdict(high && low);
     match framing::front(3, line) {
         Found::Frame(m) => {
-            write(b", a frame of ");
-            write_number(m as u64);
+            write_u64(b", a frame of ", m as u64);
             write(b"\n");
         }
         Found::Start => write(b", a start\n"),

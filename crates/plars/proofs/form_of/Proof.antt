@@ -1,6 +1,8 @@
-use mathlib.Core.Path.{_≡_}
+use Prim.Native.Nat.{_≤_}
+use mathlib.Core.Path.{sym, ap}
 use native.Mathlib.Omega.{arith}
-use borrow.Author.Needs.{needs}
+use lib.ListN.{length, List·getD-eq-default}
+use Rattle.plars.specs.Plars.{rules, noRule, formOf}
 use Rattle.plars.proofs.form_of.Statement.{statement}
 use Rattle.plars.proofs.form_of.Tie as tie
 
@@ -8,7 +10,10 @@ pub form-of-spec : {M : Type 1} → statement M
 form-of-spec =
     tie.close
     (tie.spec
-    (λ c. search needs)
-    (λ c. search needs)
-    (λ c. search needs)
-    (λ c. let e : c .before .args .parameter ≡ 3 = omega arith in rw e (search needs)))
+    (λ c. rw (c .match .keys1))
+    (λ c. rw (c .match .keys2))
+    (λ c. rw (c .match .keys3))
+    (λ c. rw (c .match .keys4))
+    (λ c.
+    let h : length rules ≤ c .before .args .parameter = omega arith in
+    ap formOf (sym (List·getD-eq-default rules noRule h))))

@@ -1,9 +1,7 @@
-use native.Mathlib.Omega.{arith}
-use borrow.Author.Tests.{lt-ltb, le-ltb}
+use borrow.Author.Tests.{eq-eqb, ne-eqb, lt-ltb, le-ltb}
 use borrow.Author.Needs.{needs}
-use Rattle.content.proofs.AnswerLaws.{fails, held, failed}
+use Rattle.content.proofs.AnswerLaws.{held, failed}
 use Rattle.plars.specs.Plars.{fieldsSetting}
-use Rattle.plars.proofs.PlarsLaws.{source-one}
 use Rattle.plars.proofs.setting_of.Statement.{statement}
 use Rattle.plars.proofs.setting_of.Tie as tie
 
@@ -12,16 +10,25 @@ unfolding fieldsSetting
 setting-of-spec =
     tie.close
     (tie.spec
+    (λ c. rw (ne-eqb _ _ (c .if1 .taken)))
+    (λ c. search needs)
     (λ c κs. search needs)
-    (λ c. fails _ (failed (c .before .is-source .ensures) (c .if1 .taken)))
-    (λ c κs. search needs)
-    (λ c.
-    let h = held (c .before .before .before .is-source .ensures) (c .before .before .if1 .left) in
-    rw (h, ← c .before .parameter-of .ensures, le-ltb _ _ (c .if2 .taken)))
-    (λ c.
-    let h = held (c .before .before .before .before .is-source .ensures) (c .before .before .before .if1 .left) in
-    omega (arith, source-one _ h))
+    (λ c. rw (eq-eqb _ _ (c .before .before .before .if1 .left), failed (c .before .is-source .ensures) (c .if2 .taken)))
     (λ c κs. search needs)
     (λ c.
-    let h = held (c .before .before .before .before .before .is-source .ensures) (c .before .before .before .before .if1 .left) in
-    rw (h, ← c .before .before .before .parameter-of .ensures, lt-ltb _ _ (c .before .before .if2 .left)) (c .ranged-setting .ensures)))
+    rw (
+      eq-eqb _ _ (c .before .before .before .before .before .if1 .left),
+      held (c .before .before .before .is-source .ensures) (c .before .before .if2 .left),
+      ← c .before .parameter-of .ensures,
+      le-ltb _ _ (c .if3 .taken),
+    ))
+    (λ c. search needs)
+    (λ c κs. search needs)
+    (λ c.
+    rw (
+      eq-eqb _ _ (c .before .before .before .before .before .before .before .if1 .left),
+      held (c .before .before .before .before .before .is-source .ensures) (c .before .before .before .before .if2 .left),
+      ← c .before .before .before .parameter-of .ensures,
+      lt-ltb _ _ (c .before .before .if3 .left),
+    )
+    (c .ranged-setting .ensures)))

@@ -19,16 +19,15 @@ steps-of-spec =
     (λ c.
     let w = sym (c .before .before .before .before .before .before .number-of .ensures) ∙ c .before .before .before .before .w .given .1 in
     rw (w, sym (c .before .before .number-of2 .ensures) ∙ c .enum-told2 .given .1))
-    (λ c κs. search needs)
     (λ c.
-    let w = sym (c .before .before .before .before .before .before .before .before .number-of .ensures) ∙ c .before .before .before .before .before .before .w .given .1 in
-    let f = sym (c .before .before .before .before .number-of2 .ensures) ∙ c .before .before .f .given .1 in
-    omega (arith, room _ _ _ _ _ _ w f (c .before .before .before .before .before .before .before .before .before .before .before .pre) (c .power-of-10 .ensures)))
+    let w = sym (c .before .before .before .before .before .before .before .number-of .ensures) ∙ c .before .before .before .before .before .w .given .1 in
+    let f = sym (c .before .before .before .number-of2 .ensures) ∙ c .before .f .given .1 in
+    omega (arith, room _ _ _ _ _ w f (c .before .before .before .before .before .before .before .before .before .before .pre)))
     (λ c.
-    let w = sym (c .before .before .before .before .before .before .before .before .number-of .ensures) ∙ c .before .before .before .before .before .before .w .given .1 in
-    let f = sym (c .before .before .before .before .number-of2 .ensures) ∙ c .before .before .f .given .1 in
-    omega (arith, room _ _ _ _ _ _ w f (c .before .before .before .before .before .before .before .before .before .before .before .pre) (c .power-of-10 .ensures)))
+    let w = sym (c .before .before .before .before .before .before .before .number-of .ensures) ∙ c .before .before .before .before .before .w .given .1 in
+    let f = sym (c .before .before .before .number-of2 .ensures) ∙ c .before .f .given .1 in
+    omega (arith, room _ _ _ _ _ w f (c .before .before .before .before .before .before .before .before .before .before .pre)))
     (λ c.
-    let w = sym (c .before .before .before .before .before .before .before .before .number-of .ensures) ∙ c .before .before .before .before .before .before .w .given .1 in
-    let f = sym (c .before .before .before .before .number-of2 .ensures) ∙ c .before .before .f .given .1 in
-    rw (w, f, ← c .power-of-10 .ensures)))
+    let w = sym (c .before .before .before .before .before .before .before .number-of .ensures) ∙ c .before .before .before .before .before .w .given .1 in
+    let f = sym (c .before .before .before .number-of2 .ensures) ∙ c .before .f .given .1 in
+    rw (w, f)))

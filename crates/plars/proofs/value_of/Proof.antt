@@ -2,7 +2,7 @@ use borrow.Author.Tests.{le-leb, lt-leb, eq-eqb, ne-eqb}
 use borrow.Author.Needs.{needs}
 use Rattle.content.proofs.AnswerLaws.{held, failed}
 use Rattle.plars.specs.Plars.{valueOf}
-use Rattle.plars.proofs.PlarsLaws.{pointed}
+use Rattle.plars.proofs.PlarsLaws.{pointed, unit-most}
 use Rattle.plars.proofs.value_of.Statement.{statement}
 use Rattle.plars.proofs.value_of.Tie as tie
 
@@ -14,22 +14,31 @@ value-of-spec =
     (λ c κs. search needs)
     (λ c. rw (c .before .before .if1 .taken, failed (c .before .is-whole .ensures) (c .if2 .taken)))
     (λ c κs. search needs)
-    (λ c. rw (c .before .before .before .if1 .taken, held (c .before .before .is-whole .ensures) (c .before .if2 .left)) (c .number-of .ensures))
+    (λ c.
+    rw (
+      c .before .before .before .if1 .taken,
+      held (c .before .before .is-whole .ensures) (c .before .if2 .left),
+    )
+    (c .number-of .ensures))
     (λ c. search needs)
-    (λ c. rw (pointed _ _ (c .before .if1 .left), lt-leb _ _ (c .if3 .taken)))
+    (λ c. rw (pointed _ _ (c .before .before .if1 .left), lt-leb _ _ (c .if3 .taken)))
     (λ c. search needs)
     (λ c. search needs)
     (λ c. search needs)
     (λ c.
-    rw (pointed _ _ (c .before .before .before .if1 .left), le-leb _ _ (c .before .before .if3 .left), ne-eqb _ _ (c .if4 .taken)))
+    rw (
+      pointed _ _ (c .before .before .before .before .before .if1 .left),
+      le-leb _ _ (c .before .before .before .if3 .left),
+      ne-eqb _ _ (c .if4 .taken),
+    ))
     (λ c. search needs)
     (λ c. search needs)
     (λ c. search needs)
     (λ c κs. search needs)
     (λ c.
     rw (
-      pointed _ _ (c .before .before .before .before .before .before .if1 .left),
-      le-leb _ _ (c .before .before .before .before .before .if3 .left),
+      pointed _ _ (c .before .before .before .before .before .before .before .before .if1 .left),
+      le-leb _ _ (c .before .before .before .before .before .before .if3 .left),
       eq-eqb _ _ (c .before .before .before .if4 .left),
       failed (c .before .is-whole2 .ensures) (c .if5 .taken),
     ))
@@ -40,12 +49,14 @@ value-of-spec =
     (λ c. search needs)
     (λ c. search needs)
     (λ c. search needs)
-    (λ c κs. search needs)
+    (λ c κs.
+    unit-most _ _ (c .before .before .before .before .before .before .before .before .before .before .before .before .before .pre))
     (λ c.
     rw (
-      pointed _ _ (c .before .before .before .before .before .before .before .before .before .if1 .left),
-      le-leb _ _ (c .before .before .before .before .before .before .before .before .if3 .left),
+      pointed _ _ (c .before .before .before .before .before .before .before .before .before .before .before .if1 .left),
+      le-leb _ _ (c .before .before .before .before .before .before .before .before .before .if3 .left),
       eq-eqb _ _ (c .before .before .before .before .before .before .if4 .left),
       held (c .before .before .before .before .is-whole2 .ensures) (c .before .before .before .if5 .left),
+      ← c .before .before .before .before .before .before .before .before .before .before .before .before .before .before .pre .1,
     )
     (c .steps-of .ensures)))

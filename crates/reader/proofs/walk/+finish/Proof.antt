@@ -16,8 +16,8 @@ use Rattle.reader.proofs.FinishLaws.{length-frame, finish-none, finish-
 use Rattle.reader.proofs.walk.finish.Reads as finish
 use Rattle.reader.proofs.walk.finish.Kinds as finish-kinds
 use Rattle.reader.proofs.walk.+finish.Lts-finish as finish-lts
-use Rattle.reader.proofs.walk.copy_at.Reads as copy-at-reads
 use Rattle.reader.proofs.walk.frame_length.Reads as frame-length-reads
+use Rattle.room.proofs.copy.Reads as copy-reads
 use Rattle.reader.proofs.walk.+finish.{statement}
 use Rattle.reader.proofs.walk.+finish.Tie.{close}
 
@@ -31,18 +31,18 @@ abbrev finish-below : ℕ → In 2 finish-kinds.ps
 finish-below t = and 2 finish-kinds.ps (falls 2 finish-kinds.ps _<_ μ-finish t) finish.Pre
 
 -- a frame stands at the start
-stands : (t : ℕ) (c : finish-lts.Else2 (frame-length-reads.Asked, frame-length-reads.Learnt, finish-below t, finish.Post, copy-at-reads.Asked, copy-at-reads.Learnt) (finish-at t) finish.Post)
+stands : (t : ℕ) (c : finish-lts.Else2 (frame-length-reads.Asked, frame-length-reads.Learnt, finish-below t, finish.Post, copy-reads.Asked, copy-reads.Learnt) (finish-at t) finish.Post)
     → front (formatOf (c .before .before .before .before .before .args .format)) (c .before .before .before .before .before .args .s .now) ≡ Frame (c .before .frame-length .result)
 stands t c = length-frame _ _ _ (c .before .frame-length .ensures) (c .if2 .left)
 
 -- and ends in it
-ends : (t : ℕ) (c : finish-lts.Else2 (frame-length-reads.Asked, frame-length-reads.Learnt, finish-below t, finish.Post, copy-at-reads.Asked, copy-at-reads.Learnt) (finish-at t) finish.Post)
+ends : (t : ℕ) (c : finish-lts.Else2 (frame-length-reads.Asked, frame-length-reads.Learnt, finish-below t, finish.Post, copy-reads.Asked, copy-reads.Learnt) (finish-at t) finish.Post)
     → (0 < c .before .frame-length .result) × (c .before .frame-length .result ≤ length (c .before .before .before .before .before .args .s .now))
 ends t c = frame-inside _ _ _ (stands t c)
 
 pub +finish-spec : {M : Type 1} → statement M
 +finish-spec = close μ-finish λ t. finish-lts.spec
-    (frame-length-reads.Asked, frame-length-reads.Learnt, finish-below t, finish.Post, copy-at-reads.Asked, copy-at-reads.Learnt)
+    (frame-length-reads.Asked, frame-length-reads.Learnt, finish-below t, finish.Post, copy-reads.Asked, copy-reads.Learnt)
     (finish-at t)
     finish.Post
     (λ c. finish-none _ _ _ (c .if1 .taken))
@@ -55,12 +55,12 @@ pub +finish-spec : {M : Type 1} → statement M
     (λ c. search needs)
     (λ c. finish-skip _ _ _ _ _ (omega (arith, c .before .before .before .before .before .before .before .before .if1 .left)) (sym (c .before .before .before .before .before .before .if2 .taken) ∙ c .before .before .before .before .before .before .before .frame-length .ensures) (c .before .before .before .finish .ensures))
     (λ c. sym (length-take-le _ _ (ends t (c .before) .1)))
-    (λ c κs. let i = ends t (c .before .before) in omega (arith, i .1, length-take-le (c .before .before .before .frame-length .result) (c .before .before .before .before .before .before .before .args .s .now) (i .1), c .before .before .before .before .before .before .before .pre .1))
+    (λ c κs. search needs)
     (λ c. ends t (c .before .before .before .before .before) .1)
     (λ c. ends t (c .before .before .before .before .before) .1)
     (λ c. search needs)
-    (λ c. let i = ends t (c .before .before .before .before .before .before) in omega (arith, i .1, c .before .before .before .copy-at .kept .1 .0, c .before .before .before .before .before .before .before .before .before .before .before .pre .1))
-    (λ c. let i = ends t (c .before .before .before .before .before .before) in omega (arith, i .1, c .before .before .before .copy-at .kept .1 .0, c .before .before .before .before .before .before .before .before .before .before .before .pre .1))
+    (λ c. let i = ends t (c .before .before .before .before .before .before) in omega (arith, i .1, c .before .before .before .copy .kept .1 .0, c .before .before .before .before .before .before .before .before .before .before .before .pre .1))
+    (λ c. let i = ends t (c .before .before .before .before .before .before) in omega (arith, i .1, c .before .before .before .copy .kept .1 .0, c .before .before .before .before .before .before .before .before .before .before .before .pre .1))
     (λ c. search needs)
     (λ c κs.
     let i = ends t (c .before .before .before .before .before .before .before) in
@@ -68,8 +68,8 @@ pub +finish-spec : {M : Type 1} → statement M
       arith,
       i,
       tail-length (c .before .before .before .before .before .before .before .before .before .before .before .before .args .s .now) (c .before .before .before .before .before .before .before .before .frame-length .result),
-      tail-length (c .before .before .before .before .copy-at .last .1 .0) (c .before .before .before .before .before .before .before .before .frame-length .result),
-      c .before .before .before .before .copy-at .kept .1 .0,
+      tail-length (c .before .before .before .before .copy .last .1 .0) (c .before .before .before .before .before .before .before .before .frame-length .result),
+      c .before .before .before .before .copy .kept .1 .0,
       c .before .before .before .before .before .before .before .before .before .before .before .before .pre .0,
       c .before .before .before .before .before .before .before .before .before .before .before .before .pre .1,
     ))
@@ -82,4 +82,4 @@ pub +finish-spec : {M : Type 1} → statement M
     let m = finished-most _ _ _ _ _ (c .before .before .before .before .finish2 .ensures) in
     omega (arith, i .1, m .bytes, m .few, tail-length (c .before .before .before .before .before .before .before .before .before .before .before .before .before .before .before .before .before .args .s .now) (c .before .before .before .before .before .before .before .before .before .before .before .before .before .frame-length .result)))
     (λ c. search needs)
-    (λ c. finish-frame _ _ _ _ _ (c .before .before .before .before .before .before .before .before .before .copy-at .last .1 .0) (c .before .before .before .before .finish2 .last .1 .1 .0) (stands t (c .before .before .before .before .before .before .before .before .before .before .before .before)) (c .before .before .before .before .before .before .before .before .before .copy-at .ensures) (c .before .before .before .before .finish2 .ensures))
+    (λ c. finish-frame _ _ _ _ _ (c .before .before .before .before .before .before .before .before .before .copy .last .1 .0) (c .before .before .before .before .finish2 .last .1 .1 .0) (c .before .before .before .before .before .before .before .before .before .before .before .before .before .before .before .before .before .pre .1) (stands t (c .before .before .before .before .before .before .before .before .before .before .before .before)) (c .before .before .before .before .before .before .before .before .before .copy .ensures) (c .before .before .before .before .finish2 .ensures))

@@ -18,13 +18,13 @@ join-spec =
     (tie.spec
     (λ c. search needs)
     (λ c. sym (part (c .before .before .before)))
-    (λ c κs. omega (arith, part (c .before .before .before .before), c .before .before .before .before .pre .1))
+    (λ c κs. search needs)
     (λ c κs. search needs)
     (λ c. search needs)
     (λ c. search needs)
     (λ c.
     let a = c .before .before .before .before .before .before .before .before .before .before .before .args in (
       refl,
-      ap (take (a .pending + length (a .bytes .now))) (c .before .before .copy-at2 .ensures ∙ rw (c .before .before .before .before .before .before .copy-at .ensures))
-          ∙ joins (a .work .now) (take (a .pending) (a .t1)) (a .bytes .now) (a .pending) (part (c .before .before .before .before .before .before .before .before .before .before .before)),
+      ap (take (a .pending + length (a .bytes .now))) (c .before .before .copy2 .ensures ∙ rw (c .before .before .before .before .before .before .copy .ensures))
+          ∙ joins (a .work .now) (take (a .pending) (a .t1)) (a .bytes .now) (a .pending) (part (c .before .before .before .before .before .before .before .before .before .before .before)) (c .before .before .before .before .before .before .before .before .before .before .before .pre .1),
     )))

@@ -10,4 +10,4 @@ keep-spec =
     (tie.spec
     (λ c. search needs)
     (λ c κs. search needs)
-    (λ c. c .before .copy-at .ensures ∙ keeps (c .before .before .before .before .args .rest .now)))
+    (λ c. c .before .copy .ensures ∙ keeps (c .before .before .before .before .args .rest .now) (c .before .before .before .before .pre)))

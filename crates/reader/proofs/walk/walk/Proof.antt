@@ -5,7 +5,7 @@ use Prim.Native.Nat.{_+_, _-_, _≤_, _<_}
 use lib.ListN.{length, drop}
 use Rattle.framing.specs.Format.{formatOf}
 use Rattle.framing.specs.Frame.{front}
-use Rattle.reader.proofs.RoomLaws.{tail-part, mid-part, mid-length}
+use Rattle.reader.proofs.RoomLaws.{tail-part, mid-part}
 use Rattle.reader.proofs.WalkLaws.{Walk, walk-start, handed-most, room-length, frame-ends, walk-skip, walk-frame, walk-end}
 use Rattle.reader.proofs.walk.walk.Statement.{statement}
 use Rattle.reader.proofs.walk.walk.Tie as tie
@@ -49,21 +49,12 @@ walk-spec =
     (λ c. search needs)
     (λ c. search needs)
     (λ c. omega (arith, ends c))
-    (λ c κs.
-    let w = c .before .before .before .before .before .before .before .loop in
-    let e = ends (c .before .before) in
-    omega (
-      arith,
-      e .1,
-      mid-length (c .before .before .before .before .before .before .before .before .before .before .args .line .now) (w .at) (c .before .before .before .n .given .0 .0) (e .1),
-      handed-most _ _ _ _ _ _ _ (w .inv),
-      room-length _ _ _ _ _ _ _ (w .inv) (c .before .before .before .before .before .before .before .before .before .before .pre),
-    ))
+    (λ c κs. search needs)
     (λ c. omega (arith, ends (c .before .before .before .before .before), handed-most _ _ _ _ _ _ _ (c .before .before .before .before .before .before .before .before .before .before .loop .inv)))
     (λ c. omega (arith, ends (c .before .before .before .before .before), handed-most _ _ _ _ _ _ _ (c .before .before .before .before .before .before .before .before .before .before .loop .inv), c .before .before .before .before .before .before .before .before .before .before .loop .inv .few))
     (λ c. omega (arith, ends (c .before .before .before .before .before)))
     (λ c.
-    walk-frame _ _ _ _ _ _ _ (c .before .before .before .before .before .before .before .before .before .before .loop .inv) (c .before .before .before .before .before .before .n .given .0 .0) _ _ (told (c .before .before .before .before .before .before .before .before) ∙ c .before .before .before .before .before .before .n .given .1) (mid-part (c .before .before .before .before .before .before .before .before .before .before .before .before .before .args .line .now) (c .before .before .before .before .before .before .before .before .before .before .loop .at) (c .before .before .before .before .before .before .n .given .0 .0)) (c .before .before .copy-at .ensures))
+    walk-frame _ _ _ _ _ _ _ (c .before .before .before .before .before .before .before .before .before .before .loop .inv) (c .before .before .before .before .before .before .n .given .0 .0) _ _ (c .before .before .before .before .before .before .before .before .before .before .before .before .before .pre) (told (c .before .before .before .before .before .before .before .before) ∙ c .before .before .before .before .before .before .n .given .1) (mid-part (c .before .before .before .before .before .before .before .before .before .before .before .before .before .args .line .now) (c .before .before .before .before .before .before .before .before .before .before .loop .at) (c .before .before .before .before .before .before .n .given .0 .0)) (c .before .before .copy .ensures))
     (λ c. search needs)
     (λ c. handed-most _ _ _ _ _ _ _ (c .before .before .before .before .loop .inv))
     (λ c. room-length _ _ _ _ _ _ _ (c .before .before .before .before .loop .inv) (c .before .before .before .before .before .before .before .pre))

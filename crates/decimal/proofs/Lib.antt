@@ -1,0 +1,3 @@
+-- Laws of numbers in decimal digits. Assumes nothing.
+pub mod DecimalLaws
+pub mod DigitTexts

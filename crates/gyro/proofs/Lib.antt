@@ -1,0 +1,2 @@
+-- Laws of the gyro numbers.
+pub mod GyroLaws

@@ -1,0 +1,3 @@
+-- Laws of the text of a setting. Assumes nothing.
+pub mod TextLaws
+pub mod PutLaws

@@ -1,0 +1,2 @@
+-- What the contracts of `plars_writer` cite.
+pub mod Text

@@ -1,0 +1,2 @@
+-- Laws of bytes laid in a room. Assumes nothing.
+pub mod RoomLaws

@@ -1,0 +1,14 @@
+use native.Mathlib.Omega.{arith}
+use borrow.Author.Tests.{lt-leb}
+use mathlib.Core.Path.{sym}
+use Prim.Native.Nat.{_+_}
+use Rattle.room.proofs.RoomLaws.{left-behind}
+use Rattle.room.proofs.fits.Statement.{statement}
+use Rattle.room.proofs.fits.Tie as tie
+
+pub fits-spec : {M : Type 1} → statement M
+fits-spec =
+    tie.close
+    (tie.spec
+    (λ c. let a = c .before .args in sym (lt-leb (a .at + a .n) (a .room) (let h = c .if1 .taken in omega arith)))
+    (λ c. let a = c .before .args in left-behind (a .n) (a .room) (a .at) (c .if1 .left)))

@@ -1,0 +1,39 @@
+// Bytes laid in lent room.
+ghost use mathlib.Core.Path.{_≡_};
+ghost use Prim.Native.Nat.{_+_, _≤_};
+ghost use lib.Dec.{leb};
+ghost use lib.ListN.{length};
+ghost use lib.Seq.{paste};
+ghost use Rattle.room.specs.Room.{copied};
+
+// Whether n bytes from a place on fit in a room of so many bytes.
+pub fn fits(n: usize, room: usize, at: usize) -> bool
+    ensures { λ r. ⌜ r ≡ leb (at + n) room ⌝ }
+{
+    if room < at {
+        return false;
+    }
+    n <= room - at
+}
+
+// Copies bytes that fit.
+fn copy_at(bytes: &[u8], room: &mut [u8], at: usize)
+    requires { ⌜ at + length (now bytes) ≤ length (now room) ⌝ }
+    ensures { λ _. ⌜ now (room .exit) ≡ paste (now (room .entry)) at (now (bytes .entry)) (length (now (bytes .entry))) ⌝ }
+{
+    let mut j = 0;
+    while j < bytes.len() {
+        room[at + j] = bytes[j];
+        j += 1;
+    }
+}
+
+// Copies bytes into a room from a place on; where they don't fit, nothing is written.
+pub fn copy(bytes: &[u8], room: &mut [u8], at: usize)
+    ensures { λ _. ⌜ now (room .exit) ≡ copied (now (bytes .entry)) (now (room .entry)) at ⌝ }
+{
+    if !fits(bytes.len(), room.len(), at) {
+        return;
+    }
+    copy_at(bytes, room, at);
+}

@@ -1,0 +1,112 @@
+-- Laws of the writers, each said once for the three formats: which bodies are taken, a head, a body and a tail copied one behind the
+-- other, and what a writer answers of a frame of these three parts.
+-- Assumes nothing.
+use Prim.Native.Nat.{ℕ, _+_, _-_, _%_, _≤_, _<_}
+use mathlib.Core.Path.{_≡_, sym, ap, subst, _∙_}
+use mathlib.Core.Bool.{Bool, true, false, _&&_}
+use mathlib.Core.List.{List, _++_}
+use native.Mathlib.Numerals.{add-one}
+use native.Mathlib.Omega.{arith}
+use lib.Dec.{leb, eqb, T, leb→le}
+use lib.Ieee.Fits.{and-l}
+use lib.ListN.{length, take, drop, getD, length-append, length-drop, drop-of-length-le}
+use lib.Seq.{drop-cons, take-at, drop-append-le}
+use borrow.Author.Tests.{le-leb, lt-leb}
+use Rattle.numbers.specs.Low.{lowBytes}
+use Rattle.framing.specs.Format.{mgl}
+use Rattle.framing.specs.Shape.{permitted}
+use Rattle.room.specs.Room.{lay, copied}
+use Rattle.room.proofs.RoomLaws.{lay-copied, start-copied}
+use Rattle.mgl.specs.declared.Header.{Header}
+use Rattle.content.specs.Answer.{given, refused}
+use Rattle.content.proofs.AnswerLaws.{after, fails}
+use Rattle.writer.specs.Frames.{takes, allPermitted, mglCovered, mglFrame, onflightCovered, onflightFrame, nmeaFrame}
+use Rattle.writer.specs.Output.{untouched, write}
+
+-- ---- what is taken
+
+-- the bytes from i on, by the byte at i
+module _ (s : List ℕ) (i : ℕ) where
+  permitted-from : i < length s → allPermitted (drop i s) ≡ (permitted (getD s i 0) && allPermitted (drop (i + 1) s))
+  unfolding allPermitted
+  permitted-from h = rw (add-one, drop-cons s i 0)
+
+  pub permitted-on : i < length s → permitted (getD s i 0) ≡ true → allPermitted (drop (i + 1) s) ≡ allPermitted (drop i s)
+  permitted-on h e = sym (permitted-from h ∙ rw e)
+
+  pub permitted-not : i < length s → permitted (getD s i 0) ≡ false → false ≡ allPermitted (drop i s)
+  permitted-not h e = sym (permitted-from h ∙ rw e)
+
+  pub permitted-end : length s ≤ i → true ≡ allPermitted (drop i s)
+  unfolding allPermitted
+  permitted-end h = rw (drop-of-length-le s h)
+
+-- an MGL body is not short
+pub mgl-long : (body : List ℕ) → takes mgl body ≡ true → 12 ≤ length body
+unfolding takes
+mgl-long body h =
+    let a = leb 12 (length body) in
+    let b = leb (length body) 264 in
+    leb→le 12 (length body) (and-l a b (and-l (a && b) (eqb (length body % 4) 0) (subst T (sym h) tt)))
+
+-- ---- the length of each frame
+
+pub mgl-length : (h : Header) (body : List ℕ) → length (mglFrame h body) ≡ length body + 12
+unfolding mglFrame mglCovered lowBytes
+mgl-length h body = simp length-append (omega arith)
+
+pub onflight-length : (payload : List ℕ) → length (onflightFrame payload) ≡ length payload + 6
+unfolding onflightFrame onflightCovered
+onflight-length payload = simp length-append (omega arith)
+
+pub nmea-length : (body : List ℕ) → length (nmeaFrame body) ≡ length body + 6
+unfolding nmeaFrame
+nmea-length body = simp length-append (omega arith)
+
+-- ---- a head a and a body b laid in a room, up to place e
+
+pub record Laid (a b room r : List ℕ) (e : ℕ) : Type 0 where
+  pub ends : length (a ++ b) ≡ e
+  pub is : r ≡ lay (a ++ b) room
+
+-- the head is copied to the start, and the body behind its k bytes
+pub body-laid : (a b room : List ℕ) {k e : ℕ} {r₁ r₂ : List ℕ} → length a ≡ k → k + length b ≡ e → e ≤ length room → r₁ ≡ copied a room 0
+    → r₂ ≡ copied b r₁ k → Laid a b room r₂ e
+body-laid a b room {k} p q h u v = record {
+  ends = rw (length-append a b) (omega arith);
+  is = v ∙ rw (u, start-copied a room (omega arith)) (lay-copied a b room k p (omega arith));
+}
+
+module _ {a b room r : List ℕ} {e : ℕ} (l : Laid a b room r e) where
+  -- the part from i up to the body's end
+  pub covered : (i : ℕ) → i ≤ e → take (e - i) (drop i r) ≡ drop i (a ++ b)
+  covered i h =
+      rw (l .is, drop-append-le i (a ++ b) (drop (length (a ++ b)) room) (omega (arith, l .ends)))
+      (take-at (drop i (a ++ b)) _ (e - i) (rw (length-drop i (a ++ b), l .ends)))
+
+  -- t is copied behind them
+  frame-laid : (t : List ℕ) {x : List ℕ} → e + length t ≤ length room → x ≡ copied t r e → x ≡ lay (a ++ b ++ t) room
+  frame-laid t h w = w ∙ rw (l .is) (lay-copied (a ++ b) t room e (l .ends) h)
+
+-- ---- what a writer answers of a frame of m bytes
+
+module _ (n : ℕ) {taken : Bool} (frame room : List ℕ) where
+  pub not-taken : taken ≡ false → refused (untouched room) n ≡ write n taken frame room
+  unfolding write
+  not-taken e = fails _ e
+
+  module _ {m : ℕ} (g : taken ≡ true) (e : length frame ≡ m) where
+    pub no-room : length room < m → refused (untouched room) 6 ≡ write n taken frame room
+    unfolding write
+    no-room h = after _ _ g (fails _ (lt-leb (length frame) (length room) (omega arith)))
+
+    frame-written : {r : List ℕ} → m ≤ length room → r ≡ lay frame room → given (record { written = m; room = r }) ≡ write n taken frame room
+    unfolding write
+    frame-written h w = after _ _ g (after _ _ (le-leb (length frame) (length room) (omega arith)) (rw (w, e)))
+
+-- a tail s, which is t, is copied behind the head and the body
+pub wrote : (n : ℕ) {taken : Bool} (a b t room : List ℕ) {r s x : List ℕ} {e m : ℕ} → taken ≡ true → length (a ++ b ++ t) ≡ m → m ≤ length room
+    → Laid a b room r e → s ≡ t → x ≡ copied s r e → given (record { written = m; room = x }) ≡ write n taken (a ++ b ++ t) room
+wrote n a b t room {r} {e = e} g p h l q w =
+    frame-written n (a ++ b ++ t) room g p h
+    (frame-laid l t (let k = l .ends in omega (arith, length-append (a ++ b) t)) (w ∙ ap (λ (s : List ℕ). copied s r e) q))

@@ -1,0 +1,72 @@
+// MGL frames, written and read back.
+use super::bytes;
+use super::bytes::MARK;
+use mgl::Header;
+use mgl::HeaderReading;
+use text::answer;
+use text::write;
+use text::write_ends;
+use text::write_hex;
+use text::write_u8;
+
+// The body of a primary flight message, whose clock, in bytes 24 to 29, shows 17 June 2023 13:49:43.
+const BODY: [u8; 32] = *b"\x10\x11\x12\x13\x14\x15\x16\x17\x18\x19\x1A\x1B\
+    \x1C\x1D\x1E\x1F\x20\x21\x22\x23\x24\x25\x26\x27\x0D\x31\x2B\x11\x06\x17\x2E\x2F";
+
+// Its header.
+pub(crate) fn primary() -> Header {
+    Header {
+        kind: 1,
+        rate: 5,
+        count: 4,
+        version: 1,
+    }
+}
+
+fn header(frame: &[u8]) {
+    match mgl::read_header(frame) {
+        HeaderReading::Read(h) => {
+            write_u8(b"header type ", h.kind);
+            write_u8(b" rate ", h.rate);
+            write_u8(b" count ", h.count);
+            write_u8(b" version ", h.version);
+        }
+        HeaderReading::Refused(r) => answer::refused(b"header ", r),
+    }
+    write(b"\n");
+}
+
+fn message() {
+    write(b"MGL, the primary flight message\n");
+    let mut room = [MARK; 48];
+    let writing = writer::write_mgl(primary(), &BODY, &mut room);
+    bytes::shown(writing, &room);
+    let frame = bytes::made(writing, &room);
+    header(frame);
+    write(b"body ");
+    write_hex(content::body(1, frame));
+    write(b"\n");
+    answer::clock(b"clock ", mgl::clock::read_clock(frame));
+}
+
+fn longest() {
+    write(b"MGL, the longest frame\n");
+    let mut body = [0; 264];
+    bytes::count(&mut body, 0);
+    let mut room = [MARK; 276];
+    let writing = writer::write_mgl(primary(), &body, &mut room);
+    bytes::answer(writing);
+    write(b"\nframe ");
+    let frame = bytes::made(writing, &room);
+    write_ends(frame);
+    write(b"\n");
+    header(frame);
+    write(b"body ");
+    write_ends(content::body(1, frame));
+    write(b"\n");
+}
+
+pub(crate) fn trips() {
+    message();
+    longest();
+}
