@@ -1,7 +1,7 @@
 -- Laws of one whole frame over every format: what the test says, how long a frame is, and that its body lies inside.
 -- Assumes nothing.
 use Prim.Native.Nat.{ℕ, _+_, _-_, _≤_, _<_}
-use mathlib.Core.Path.{_≡_, refl, ap, subst}
+use mathlib.Core.Path.{_≡_, refl, sym, ap, _∙_}
 use mathlib.Core.Logic.{_↔_}
 use mathlib.Core.Bool.{true}
 use mathlib.Core.List.{List}
@@ -82,6 +82,15 @@ module _ (f : Format) (s : List ℕ) {a e : ℕ} (h : isFrame f s ≡ true) (p :
   unfolding bodyOf
   body-at = rw (p, q, h)
 
+-- how long it is
+part-length : (a e : ℕ) (s : List ℕ) → a ≤ e → e ≤ length s → length (part a e s) ≡ e - a
+part-length a e s h k = length-take-le (e - a) _ (simp length-drop (omega arith))
+
+pub body-length : (f : Format) (s : List ℕ) → isFrame f s ≡ true → length (bodyOf f s) ≡ length s - bodyEnd f - bodyStart f
+body-length f s h =
+    let n = body-inside f s h in
+    ap length (sym (body-at f s h refl refl)) ∙ part-length (bodyStart f) (length s - bodyEnd f) s (omega arith) (omega arith)
+
 -- The body of a frame is not empty: a byte more than what stands around it is there in the shortest.
 body-room : (f : Format) → T (known f) → bodyStart f + bodyEnd f < shortest f
 unfolding bodyStart bodyEnd shortest known
@@ -90,12 +99,5 @@ body-room onflight k = omega arith
 body-room nmea k = omega arith
 body-room unknown k = absurd k
 
-part-length : (a e : ℕ) (s : List ℕ) → a ≤ e → e ≤ length s → length (part a e s) ≡ e - a
-part-length a e s h k = length-take-le (e - a) _ (simp length-drop (omega arith))
-
 pub body-some : (f : Format) (s : List ℕ) → isFrame f s ≡ true → 0 < length (bodyOf f s)
-body-some f s h =
-    let r = body-room f (good-known f s (checksum-right f s h)) in
-    let n = frame-long f s h in
-    let l = part-length (bodyStart f) (length s - bodyEnd f) s (omega arith) (omega arith) in
-    subst (λ (b : List ℕ). 0 < length b) (body-at f s h refl refl) (omega arith)
+body-some f s h = omega (arith, body-length f s h, body-room f (good-known f s (checksum-right f s h)), frame-long f s h)

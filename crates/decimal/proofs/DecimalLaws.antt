@@ -24,7 +24,7 @@ enough zero (suc l) n p q = rw (le-leb n 9 (omega arith))
 enough (suc m) zero n p q = rw (le-leb n 9 (omega arith))
 enough (suc m) (suc l) n p q = ap (λ (k : ℕ). cond (leb n 9) 1 (suc k)) (enough m l (n / 10) (omega arith) (omega arith))
 
-pub count-step : (n : ℕ) → digitCount n ≡ cond (leb n 9) 1 (suc (digitCount (n / 10)))
+count-step : (n : ℕ) → digitCount n ≡ cond (leb n 9) 1 (suc (digitCount (n / 10)))
 unfolding digitCount countSteps
 count-step n =
     enough n (suc n) n (omega arith) (omega arith)
@@ -59,6 +59,14 @@ count-least zero n h = count-some n
 count-least (suc k) n h =
     let q : 1 ≤ 10 ^ k = one-le-pow k 10 (omega arith) in
     omega (arith, count-more n (omega arith), count-least k (n / 10) (omega arith))
+
+-- the number is below ten to its count
+pub count-covers : (n : ℕ) → n < 10 ^ digitCount n
+count-covers n = go (decLe (10 ^ digitCount n) n)
+  where
+    go : Dec (10 ^ digitCount n ≤ n) → n < 10 ^ digitCount n
+    go (yes p) = absurd (omega (arith, count-least (digitCount n) n p))
+    go (no p) = omega arith
 
 -- ---- the last digits
 

@@ -86,7 +86,7 @@ fn onflight(s: &[u8]) -> Scanned
 }
 
 // Whether a byte may stand in the body of a sentence.
-pub fn may_stand(b: u8) -> bool
+pub fn is_permitted(b: u8) -> bool
     ensures { λ r. ⌜ r ≡ permitted b ⌝ }
 {
     if b < 0x20 {
@@ -166,7 +166,7 @@ fn nmea(s: &[u8]) -> Scanned
             }
             return ending(s, k + 1);
         }
-        if !may_stand(s[k]) {
+        if !is_permitted(s[k]) {
             return Scanned::Broken(Reason::BodyByte);
         }
         if 77 <= k {

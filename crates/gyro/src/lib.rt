@@ -4,6 +4,7 @@ ghost use mathlib.Core.Path.{_≡_};
 ghost use Prim.Native.Nat.{_≤_};
 ghost use Rattle.gyro.specs.Gyro.{scale, hundredthsOf, unscale, numberOf, gyroAnswer};
 
+// What is written for a rate: the gyro number that stands for it, or refusal 9.
 pub enum GyroWriting {
     Number(i16),
     Refused(Refusal),

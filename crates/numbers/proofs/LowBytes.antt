@@ -17,7 +17,7 @@ unfolding lowBytes
 length-lowBytes zero n = refl
 length-lowBytes (suc k) n = ap suc (length-lowBytes k (n / 256))
 
-pub lowBytes-at : (k n i : ℕ) → i < k → getD (lowBytes k n) i 0 ≡ n / 256 ^ i % 256
+lowBytes-at : (k n i : ℕ) → i < k → getD (lowBytes k n) i 0 ≡ n / 256 ^ i % 256
 unfolding lowBytes
 lowBytes-at zero n i h = absurd (omega arith)
 lowBytes-at (suc k) n zero h = ap (λ (m : ℕ). m % 256) (sym (div-one n))

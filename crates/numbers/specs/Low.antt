@@ -16,7 +16,7 @@ unfoldable pub lowBytes : ℕ → ℕ → List ℕ
 lowBytes zero n = []
 lowBytes (suc k) n = n % 256 ∷ lowBytes k (n / 256)
 
--- those bits in two's complement: n itself below half of 2 ^ bits, and n less 2 ^ bits from there on (`small` and `large` of
+-- the low bits of a number, read as two's complement: n itself below half of 2 ^ bits, and n less 2 ^ bits from there on (`small` and `large` of
 -- proofs/Signed.antt)
 abbrev pub signed : Width → ℕ → ℤ
 signed w n = toZ w n

@@ -1,4 +1,4 @@
--- A setting's value with one or more decimals, the room that its steps take, and the bounds of a form.
+-- A setting's value with one or more decimals, how many its steps can be, and the bounds of a form.
 -- Assumes nothing.
 use Prim.Native.Nat.{ℕ, zero, suc, _+_, _-_, _*_, _^_, _<_, _≤_}
 use mathlib.Core.Path.{_≡_, refl, sym}
@@ -34,9 +34,9 @@ pointed (suc d) s h =
 small : (s : List ℕ) (n : ℕ) → digitsOf s ≡ Of n → n < 10 ^ 9
 small s n e = few-digits s n 9 (sym e) (written s n e .few)
 
--- a whole part w and decimals f, of which u make 1
-pub room : (x y : List ℕ) (w f u : ℕ) → digitsOf x ≡ Of w → digitsOf y ≡ Of f → u ≤ 1000 → w * u + f ≤ 10 ^ 12 + 10 ^ 9
-room x y w f u g h k = omega (arith, mul-le-mul {n₁ = w} {m₁ = u} {n₂ = 10 ^ 9} {m₂ = 10 ^ 3} (le-of-lt (small x w g)) k, small y f h)
+-- the steps of a whole part w and decimals f, where u steps make 1
+pub steps-most : (x y : List ℕ) (w f u : ℕ) → digitsOf x ≡ Of w → digitsOf y ≡ Of f → u ≤ 1000 → w * u + f ≤ 10 ^ 12 + 10 ^ 9
+steps-most x y w f u g h k = omega (arith, mul-le-mul {n₁ = w} {m₁ = u} {n₂ = 10 ^ 9} {m₂ = 10 ^ 3} (le-of-lt (small x w g)) k, small y f h)
 
 -- the bounds of a form, of any number
 bounds : (p : ℕ) → (ruleOf p .decimals ≤ 3) × (ruleOf p .most ≤ 12000)

@@ -17,7 +17,7 @@ use Rattle.framing.specs.Reading.{closing, framed, skipped, read, joined}
 use Rattle.framing.proofs.ReadingLaws.{read-nil, closing-rest, balance}
 use Rattle.reader.specs.declared.walk.Walked.{Walked}
 use Rattle.reader.specs.Private.{frameLength, countsOf}
-use Rattle.reader.proofs.RoomLaws.{tail-part}
+use Rattle.reader.proofs.HeldLaws.{tail-part}
 use Rattle.reader.proofs.StepLaws.{Step, frame-inside, frame-step, skip-step, close-step, frames-most}
 
 -- what going through xs to the end answers and leaves

@@ -1,7 +1,6 @@
 // The readings of MGL frames: header, GPS, fuel tanks and clock; and gyro numbers.
 use super::changed;
 use super::frames;
-use mgl::HeaderReading;
 use mgl::fuel::TankReading;
 use mgl::gps::Gps;
 use mgl::gps::GpsReading;
@@ -13,16 +12,7 @@ use text::write_u8;
 use text::write_u16;
 
 fn header(s: &[u8]) {
-    match mgl::read_header(s) {
-        HeaderReading::Read(h) => {
-            write_u8(b"header type ", h.kind);
-            write_u8(b" rate ", h.rate);
-            write_u8(b" count ", h.count);
-            write_u8(b" version ", h.version);
-        }
-        HeaderReading::Refused(r) => answer::refused(b"header ", r),
-    }
-    write(b"\n");
+    answer::header(mgl::read_header(s));
 }
 
 fn place(g: Gps) {

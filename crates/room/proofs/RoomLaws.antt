@@ -56,7 +56,7 @@ module _ (bs room : List ℕ) (at : ℕ) (h : at + length bs ≤ length room) wh
   drop-copied : drop (at + length bs) (copied bs room at) ≡ drop (at + length bs) room
   drop-copied = rw copied-as (drop-at (take at room ++ bs) (drop (at + length bs) room) (at + length bs) length-front)
 
-pub length-copied : (bs room : List ℕ) (at : ℕ) → length (copied bs room at) ≡ length room
+length-copied : (bs room : List ℕ) (at : ℕ) → length (copied bs room at) ≡ length room
 length-copied bs room at = go (decLe (at + length bs) (length room))
   where
     go : Dec (at + length bs ≤ length room) → length (copied bs room at) ≡ length room

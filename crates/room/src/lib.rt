@@ -6,14 +6,14 @@ ghost use lib.ListN.{length};
 ghost use lib.Seq.{paste};
 ghost use Rattle.room.specs.Room.{copied};
 
-// Whether n bytes from a place on fit in a room of so many bytes.
-pub fn fits(n: usize, room: usize, at: usize) -> bool
-    ensures { λ r. ⌜ r ≡ leb (at + n) room ⌝ }
+// Whether n bytes from a place on fit in a room of `size` bytes.
+pub fn fits(n: usize, size: usize, at: usize) -> bool
+    ensures { λ r. ⌜ r ≡ leb (at + n) size ⌝ }
 {
-    if room < at {
+    if size < at {
         return false;
     }
-    n <= room - at
+    n <= size - at
 }
 
 // Copies bytes that fit.

@@ -2,15 +2,15 @@
 -- Assumes nothing.
 use Prim.Native.Nat.{ℕ, _+_, _-_, _%_, _<_, _≤_}
 use mathlib.Core.Path.{_≡_, refl, sym, ap, _∙_}
-use mathlib.Core.Bool.{true, _&&_, and-eq-true-iff}
+use mathlib.Core.Bool.{true}
 use mathlib.Core.List.{List, [], _∷_, _++_}
 use native.Mathlib.Decide.{decLt}
 use native.Mathlib.Nat.{mod-eq-of-lt}
 use native.Mathlib.Omega.{arith}
-use lib.Dec.{T, leb, eqb, eqb-refl}
+use lib.Dec.{T, eqb-refl}
 use lib.ListN.{length, length-append}
 use lib.Seq.{take-at}
-use borrow.Author.Tests.{leb-true, le-leb, eqb-true, eq-eqb}
+use borrow.Author.Tests.{le-leb, eqb-true, eq-eqb}
 use Rattle.numbers.specs.Low.{lowBytes}
 use Rattle.numbers.proofs.LowBytes.{length-lowBytes, low-lowBytes}
 use Rattle.checksum.specs.Crc.{crcOf}
@@ -23,6 +23,7 @@ use Rattle.framing.proofs.ShapeLaws.{CountsFrom, counted, mgl-counts, onflight-
 use Rattle.framing.proofs.HeadLaws.{length-itself}
 use Rattle.mgl.specs.declared.Header.{Header}
 use Rattle.writer.specs.Frames.{takes, lengthByte, mglCovered, mglFrame, onflightCovered, onflightFrame}
+use Rattle.writer.proofs.WriterLaws.{taken-long}
 use Rattle.roundtrips.proofs.Bounds.{crc-below}
 use Rattle.roundtrips.proofs.PartLaws.{behind, between, from-end}
 
@@ -40,13 +41,6 @@ length-said n h l = go (decLt n 256)
     go (yes p) = rw (mod-eq-of-lt p) (length-itself n (omega arith))
     go (no p) = let e : n ≡ 256 = omega arith in rw e
 
-mgl-length : (body : List ℕ) → takes mgl body ≡ true → (12 ≤ length body) × (length body ≤ 264)
-unfolding takes
-mgl-length body t =
-    let a = and-eq-true-iff (leb 12 (length body) && leb (length body) 264) (eqb (length body % 4) 0) .0 t in
-    let b = and-eq-true-iff (leb 12 (length body)) (leb (length body) 264) .0 (a .0) in
-    (leb-true 12 (length body) (b .0), leb-true (length body) 264 (b .1))
-
 abbrev head : List ℕ → List ℕ
 head body = 0x05 ∷ 0x02 ∷ lengthByte body ∷ (255 - lengthByte body) ∷ []
 
@@ -59,7 +53,7 @@ module _ (h : Header) (body : List ℕ) where
   unfolding mglFrame lengthByte scan scanFrom next mglNext
   mgl-shape t =
       let y = lowBytes 4 (crcOf (mglCovered h body)) in
-      let n = mgl-length body t in
+      let n = taken-long body t in
       let l = length-said (length body - 8) (omega arith) (omega arith) in
       let m : lengthOf ((length body - 8) % 256) + 20 ≡ 4 + length (mglCovered h body ++ y) =
       omega (arith, covered-length, length-append (mglCovered h body) y, length-lowBytes 4 (crcOf (mglCovered h body)))

@@ -11,7 +11,7 @@ use lib.Dec.{leb}
 use lib.ListN.{length}
 use borrow.Author.Tests.{le-leb, leb-true}
 use Rattle.decimal.specs.Decimal.{lastDigits, digitCount, decimalText}
-use Rattle.decimal.proofs.DecimalLaws.{count-some, count-most, count-least, length-last}
+use Rattle.decimal.proofs.DecimalLaws.{count-some, count-most, count-least, count-covers, length-last}
 use Rattle.decimal.proofs.DigitTexts.{Digits}
 use Rattle.sentence.specs.Digits.{allDigits, nextDigit, decimal}
 use Rattle.sentence.proofs.DigitLaws.{decimal-below}
@@ -95,14 +95,6 @@ module _ (s : List ℕ) (e : allDigits s ≡ true) where
 -- the number without its last digits, and those
 pub decimals-split : (d n : ℕ) → n / 10 ^ d * 10 ^ d + decimal (lastDigits d n) ≡ n
 decimals-split d n = (rw (length-last d n) at (sym (after-number (n / 10 ^ d) (lastDigits d n)))) ∙ read-last d n
-
--- it is below the power of ten of its count
-count-covers : (n : ℕ) → n < 10 ^ digitCount n
-count-covers n = go (decLe (10 ^ digitCount n) n)
-  where
-    go : Dec (10 ^ digitCount n ≤ n) → n < 10 ^ digitCount n
-    go (yes p) = absurd (omega (arith, count-least (digitCount n) n p))
-    go (no p) = omega arith
 
 pub text-decimal : (n : ℕ) → decimal (decimalText n) ≡ n
 unfolding decimalText

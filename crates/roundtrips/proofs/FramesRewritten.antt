@@ -15,7 +15,7 @@ use Rattle.roundtrips.proofs.MadeLaws.{made-is}
 use Rattle.roundtrips.proofs.NmeaRewritten.{nmea-rewritten}
 
 -- the frame of what a frame holds, whatever the room
-pub rewritten : (f : Format) (s : List ℕ) → Bytes s → IsFrame f s → takes f (bodyOf f s) ≡ true → frameOf f (contentOf f s) ≡ s
+rewritten : (f : Format) (s : List ℕ) → Bytes s → IsFrame f s → takes f (bodyOf f s) ≡ true → frameOf f (contentOf f s) ≡ s
 unfolding takes
 rewritten mgl s b h t = mgl-rewritten s b h
 rewritten onflight s b h t = onflight-rewritten s h

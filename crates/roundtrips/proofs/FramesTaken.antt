@@ -1,26 +1,18 @@
 -- Which frames the writers take.
 -- Assumes nothing.
 use Prim.Native.Nat.{ℕ, _-_, _%_, _≤_}
-use mathlib.Core.Path.{_≡_, refl, sym, ap, _∙_}
+use mathlib.Core.Path.{_≡_, refl}
 use mathlib.Core.Bool.{Bool, true, false, _&&_}
-use mathlib.Core.List.{List}
 use native.Mathlib.Omega.{arith}
 use lib.Dec.{eqb, leb}
-use lib.ListN.{length, drop, length-drop}
-use lib.Seq.{length-take-le}
+use lib.ListN.{length}
 use borrow.Author.Tests.{le-leb, eqb-true, eq-eqb}
-use Rattle.framing.specs.Format.{Format, mgl, onflight, nmea, unknown, shortest, longest}
-use Rattle.content.specs.Body.{isFrame, bodyStart, bodyEnd, bodyOf}
-use Rattle.content.proofs.BodyLaws.{frame-test, frame-long, frame-short, body-inside, body-at}
+use Rattle.framing.specs.Format.{mgl, onflight, nmea, unknown, shortest, longest}
+use Rattle.content.specs.Body.{bodyStart, bodyEnd, bodyOf}
+use Rattle.content.proofs.BodyLaws.{frame-test, frame-long, frame-short, onflight-length, body-length}
 use Rattle.writer.specs.Frames.{takes}
 use Rattle.roundtrips.specs.FrameTrips.{FramesTaken}
 use Rattle.roundtrips.proofs.NmeaRewritten.{body-permitted}
-
--- how long a body is
-body-length : (f : Format) (s : List ℕ) → isFrame f s ≡ true → length (bodyOf f s) ≡ length s - bodyEnd f - bodyStart f
-body-length f s h =
-    ap length (sym (body-at f s h refl refl))
-    ∙ length-take-le (length s - bodyEnd f - bodyStart f) (drop (bodyStart f) s) (omega (arith, length-drop (bodyStart f) s, body-inside f s h))
 
 -- between 9 and 264, a multiple of 4 is at least 12
 mgl-taken : (n : ℕ) → 9 ≤ n → n ≤ 264 → (leb 12 n && leb n 264 && eqb (n % 4) 0) ≡ eqb (n % 4) 0
@@ -43,7 +35,7 @@ frames-taken mgl s e =
 frames-taken onflight s e =
     let h = frame-test onflight s .1 e in
     let l = body-length onflight s h in
-    eq-eqb (length (bodyOf onflight s)) 152 (omega (arith, frame-long onflight s h, frame-short onflight s h))
+    eq-eqb (length (bodyOf onflight s)) 152 (omega (arith, onflight-length s h))
 frames-taken nmea s e =
     let h = frame-test nmea s .1 e in
     let l = body-length nmea s h in

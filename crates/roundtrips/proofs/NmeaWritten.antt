@@ -43,7 +43,7 @@ permitted-byte x h =
     let c = and-eq-true-iff (leb 0x20 x) (leb x 0x7E) .0 (b .0) in
     (leb-true x 0x7E (c .1), eqb-false x 0x2A (not-true (eqb x 0x2A) (a .1)))
 
-pub permitted-bytes : (body : List ℕ) → allPermitted body ≡ true → Bytes body
+permitted-bytes : (body : List ℕ) → allPermitted body ≡ true → Bytes body
 unfolding allPermitted
 permitted-bytes [] h = tt
 permitted-bytes (x ∷ body) h =

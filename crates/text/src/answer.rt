@@ -1,12 +1,14 @@
-// What the readings answer: a refusal, a number, a clock.
+// What the readings answer: a refusal, a number, a clock, a header.
 use super::write;
 use super::write_i64;
+use super::write_u8;
 use super::write_u32;
 use calendar::Clock;
 use calendar::Field;
 use content::ClockReading;
 use content::NumberReading;
 use content::Refusal;
+use mgl::HeaderReading;
 
 pub fn refused(label: &[u8], r: Refusal) {
     write(label);
@@ -48,6 +50,19 @@ pub fn clock(label: &[u8], reading: ClockReading) {
     match reading {
         ClockReading::Read(c) => shown(label, c),
         ClockReading::Refused(r) => refused(label, r),
+    }
+    write(b"\n");
+}
+
+pub fn header(reading: HeaderReading) {
+    match reading {
+        HeaderReading::Read(h) => {
+            write_u8(b"header type ", h.kind);
+            write_u8(b" rate ", h.rate);
+            write_u8(b" count ", h.count);
+            write_u8(b" version ", h.version);
+        }
+        HeaderReading::Refused(r) => refused(b"header ", r),
     }
     write(b"\n");
 }

@@ -8,7 +8,7 @@ use mathlib.Core.List.{List, _++_}
 use native.Mathlib.Numerals.{add-one}
 use native.Mathlib.Omega.{arith}
 use lib.Dec.{leb, eqb, T, leb→le}
-use lib.Ieee.Fits.{and-l}
+use lib.Ieee.Fits.{and-l, and-r}
 use lib.ListN.{length, take, drop, getD, length-append, length-drop, drop-of-length-le}
 use lib.Seq.{drop-cons, take-at, drop-append-le}
 use borrow.Author.Tests.{le-leb, lt-leb}
@@ -41,13 +41,14 @@ module _ (s : List ℕ) (i : ℕ) where
   unfolding allPermitted
   permitted-end h = rw (drop-of-length-le s h)
 
--- an MGL body is not short
-pub mgl-long : (body : List ℕ) → takes mgl body ≡ true → 12 ≤ length body
+-- how long an MGL body is that is taken
+pub taken-long : (body : List ℕ) → takes mgl body ≡ true → (12 ≤ length body) × (length body ≤ 264)
 unfolding takes
-mgl-long body h =
+taken-long body h =
     let a = leb 12 (length body) in
     let b = leb (length body) 264 in
-    leb→le 12 (length body) (and-l a b (and-l (a && b) (eqb (length body % 4) 0) (subst T (sym h) tt)))
+    let t = and-l (a && b) (eqb (length body % 4) 0) (subst T (sym h) tt) in
+    (leb→le 12 (length body) (and-l a b t), leb→le (length body) 264 (and-r a b t))
 
 -- ---- the length of each frame
 

@@ -8,7 +8,7 @@ use writer::Writing;
 // What a room holds as it is lent.
 pub(crate) const MARK: u8 = 0xEE;
 
-// Fills bytes that count up from first.
+// Fills bytes so that they count up from first.
 pub(crate) fn count(bytes: &mut [u8], first: u8) {
     let mut byte = first;
     let mut i = 0;

@@ -2,12 +2,10 @@
 use super::bytes;
 use super::bytes::MARK;
 use mgl::Header;
-use mgl::HeaderReading;
 use text::answer;
 use text::write;
 use text::write_ends;
 use text::write_hex;
-use text::write_u8;
 
 // The body of a primary flight message, whose clock, in bytes 24 to 29, shows 17 June 2023 13:49:43.
 const BODY: [u8; 32] = *b"\x10\x11\x12\x13\x14\x15\x16\x17\x18\x19\x1A\x1B\
@@ -23,26 +21,13 @@ pub(crate) fn primary() -> Header {
     }
 }
 
-fn header(frame: &[u8]) {
-    match mgl::read_header(frame) {
-        HeaderReading::Read(h) => {
-            write_u8(b"header type ", h.kind);
-            write_u8(b" rate ", h.rate);
-            write_u8(b" count ", h.count);
-            write_u8(b" version ", h.version);
-        }
-        HeaderReading::Refused(r) => answer::refused(b"header ", r),
-    }
-    write(b"\n");
-}
-
 fn message() {
     write(b"MGL, the primary flight message\n");
     let mut room = [MARK; 48];
     let writing = writer::write_mgl(primary(), &BODY, &mut room);
     bytes::shown(writing, &room);
     let frame = bytes::made(writing, &room);
-    header(frame);
+    answer::header(mgl::read_header(frame));
     write(b"body ");
     write_hex(content::body(1, frame));
     write(b"\n");
@@ -60,7 +45,7 @@ fn longest() {
     let frame = bytes::made(writing, &room);
     write_ends(frame);
     write(b"\n");
-    header(frame);
+    answer::header(mgl::read_header(frame));
     write(b"body ");
     write_ends(content::body(1, frame));
     write(b"\n");

@@ -1,7 +1,7 @@
 use mathlib.Core.Path.{sym, _∙_}
 use native.Mathlib.Omega.{arith}
 use borrow.Author.Needs.{needs}
-use Rattle.plars.proofs.PlarsLaws.{room}
+use Rattle.plars.proofs.PlarsLaws.{steps-most}
 use Rattle.plars.proofs.steps_of.Statement.{statement}
 use Rattle.plars.proofs.steps_of.Tie as tie
 
@@ -22,11 +22,11 @@ steps-of-spec =
     (λ c.
     let w = sym (c .before .before .before .before .before .before .before .number-of .ensures) ∙ c .before .before .before .before .before .w .given .1 in
     let f = sym (c .before .before .before .number-of2 .ensures) ∙ c .before .f .given .1 in
-    omega (arith, room _ _ _ _ _ w f (c .before .before .before .before .before .before .before .before .before .before .pre)))
+    omega (arith, steps-most _ _ _ _ _ w f (c .before .before .before .before .before .before .before .before .before .before .pre)))
     (λ c.
     let w = sym (c .before .before .before .before .before .before .before .number-of .ensures) ∙ c .before .before .before .before .before .w .given .1 in
     let f = sym (c .before .before .before .number-of2 .ensures) ∙ c .before .f .given .1 in
-    omega (arith, room _ _ _ _ _ w f (c .before .before .before .before .before .before .before .before .before .before .pre)))
+    omega (arith, steps-most _ _ _ _ _ w f (c .before .before .before .before .before .before .before .before .before .before .pre)))
     (λ c.
     let w = sym (c .before .before .before .before .before .before .before .number-of .ensures) ∙ c .before .before .before .before .before .w .given .1 in
     let f = sym (c .before .before .before .number-of2 .ensures) ∙ c .before .f .given .1 in

@@ -9,7 +9,7 @@ use Rattle.framing.specs.Reading.{ongoing, read}
 use Rattle.framing.proofs.ReadingLaws.{balance}
 use Rattle.reader.specs.declared.Outcome.{Outcome}
 use Rattle.reader.specs.Calls.{returned}
-use Rattle.reader.proofs.RoomLaws.{tail-part}
+use Rattle.reader.proofs.HeldLaws.{tail-part}
 use Rattle.reader.proofs.StepLaws.{rest-stands}
 use Rattle.reader.proofs.CallLaws.{fits, renews}
 use Rattle.reader.proofs.accept.Statement.{statement}

@@ -10,5 +10,5 @@ pub fits-spec : {M : Type 1} → statement M
 fits-spec =
     tie.close
     (tie.spec
-    (λ c. let a = c .before .args in sym (lt-leb (a .at + a .n) (a .room) (let h = c .if1 .taken in omega arith)))
-    (λ c. let a = c .before .args in left-behind (a .n) (a .room) (a .at) (c .if1 .left)))
+    (λ c. let a = c .before .args in sym (lt-leb (a .at + a .n) (a .size) (let h = c .if1 .taken in omega arith)))
+    (λ c. let a = c .before .args in left-behind (a .n) (a .size) (a .at) (c .if1 .left)))

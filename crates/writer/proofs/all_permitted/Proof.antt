@@ -25,13 +25,13 @@ all-permitted-spec =
     (λ c. search needs)
     (λ c κs. search needs)
     (λ c.
-    permitted-not _ _ (c .before .before .before .loop-test .taken) (failed (c .before .may-stand .ensures) (c .if1 .taken))
+    permitted-not _ _ (c .before .before .before .loop-test .taken) (failed (c .before .is-permitted .ensures) (c .if1 .taken))
     ∙ c .before .before .before .before .loop .inv .1)
     (λ c. search needs)
     (λ c. search needs)
     (λ c. (
       search needs,
-      permitted-on _ _ (c .before .before .before .loop-test .taken) (held (c .before .may-stand .ensures) (c .if1 .left))
+      permitted-on _ _ (c .before .before .before .loop-test .taken) (held (c .before .is-permitted .ensures) (c .if1 .left))
           ∙ c .before .before .before .before .loop .inv .1,
     ))
     (λ c. permitted-end _ _ (c .loop-test .left) ∙ c .before .loop .inv .1))

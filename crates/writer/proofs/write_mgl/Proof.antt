@@ -8,7 +8,7 @@ use Rattle.numbers.specs.Low.{lowBytes}
 use Rattle.checksum.specs.Crc.{crcOf}
 use Rattle.content.proofs.AnswerLaws.{held, failed}
 use Rattle.writer.specs.Frames.{lengthByte, mglCovered, mglFrame}
-use Rattle.writer.proofs.WriterLaws.{mgl-long, mgl-length, body-laid, covered, not-taken, no-room, wrote}
+use Rattle.writer.proofs.WriterLaws.{taken-long, mgl-length, body-laid, covered, not-taken, no-room, wrote}
 use Rattle.writer.proofs.write_mgl.Statement.{statement}
 use Rattle.writer.proofs.write_mgl.Tie as tie
 
@@ -24,7 +24,7 @@ write-mgl-spec =
     (λ c.
     let a = c .before .before .before .before .before .args in
     no-room 5 _ _ (held (c .before .before .takes-mgl .ensures) (c .before .if1 .left)) (mgl-length (a .header) (a .body .now)) (search needs))
-    (λ c. omega (arith, mgl-long _ (held (c .before .before .takes-mgl .ensures) (c .before .if1 .left))))
+    (λ c. omega (arith, taken-long _ (held (c .before .before .takes-mgl .ensures) (c .before .if1 .left)) .0))
     (λ c. search needs)
     (λ c. search needs)
     (λ c. search needs)

@@ -47,19 +47,19 @@ nmea-spec =
     (λ c.
     let l = c .before .before .before .before .before .before .loop in
     let i = c .before .before .before .before .before .loop-test .taken in
-    let p = sym (c .before .may-stand .ensures) ∙ not-true _ (c .if5 .taken) in
+    let p = sym (c .before .is-permitted .ensures) ∙ not-true _ (c .if5 .taken) in
     sym (l .inv .3 ∙ body-broken _ (l .k) (l .inv .0) i (c .before .before .before .if3 .left) p))
     (λ c.
     let l = c .before .before .before .before .before .before .before .loop in
     let i = c .before .before .before .before .before .before .loop-test .taken in
-    let p = sym (c .before .before .may-stand .ensures) ∙ not-false _ (c .before .if5 .left) in
+    let p = sym (c .before .before .is-permitted .ensures) ∙ not-false _ (c .before .if5 .left) in
     sym (l .inv .3 ∙ body-long _ (l .k) (l .inv .0) i (c .before .before .before .before .if3 .left) p (c .if6 .taken)))
     (λ c. search needs)
     (λ c. search needs)
     (λ c.
     let l = c .before .before .before .before .before .before .before .loop in
     let i = c .before .before .before .before .before .before .loop-test .taken in
-    let p = sym (c .before .before .may-stand .ensures) ∙ not-false _ (c .before .if5 .left) in
+    let p = sym (c .before .before .is-permitted .ensures) ∙ not-false _ (c .before .if5 .left) in
     let n = c .before .before .before .before .if3 .left in
     (omega arith, omega arith, omega arith, l .inv .3 ∙ body-more _ (l .k) (l .inv .0) i n p (c .if6 .left)))
     (λ c. sym (c .before .loop .inv .3 ∙ scan-end nmea _ _ _ (c .loop-test .left))))

@@ -7,7 +7,7 @@ use lib.ListN.{length}
 use lib.Seq.{length-take-le}
 use borrow.Fn.Kinds.{In}
 use borrow.Fn.PlainCycle.{Measures, is, falls, and}
-use Rattle.reader.proofs.RoomLaws.{tail-length}
+use Rattle.reader.proofs.HeldLaws.{tail-length}
 use Rattle.framing.specs.declared.Found.the-variants.{Frame}
 use Rattle.framing.specs.Format.{formatOf}
 use Rattle.framing.specs.Frame.{front}

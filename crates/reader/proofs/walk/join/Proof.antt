@@ -4,7 +4,7 @@ use mathlib.Core.Path.{_≡_, refl, sym, _∙_, ap}
 use Prim.Native.Nat.{_+_}
 use lib.ListN.{length, take}
 use lib.Seq.{length-take-le}
-use Rattle.reader.proofs.RoomLaws.{joins}
+use Rattle.reader.proofs.HeldLaws.{joins}
 use Rattle.reader.proofs.walk.join.Statement.{statement}
 use Rattle.reader.proofs.walk.join.Tie as tie
 

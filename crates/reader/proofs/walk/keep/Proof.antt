@@ -1,6 +1,6 @@
 use borrow.Author.Needs.{needs}
 use mathlib.Core.Path.{_∙_}
-use Rattle.reader.proofs.RoomLaws.{keeps}
+use Rattle.reader.proofs.HeldLaws.{keeps}
 use Rattle.reader.proofs.walk.keep.Statement.{statement}
 use Rattle.reader.proofs.walk.keep.Tie as tie
 

@@ -5,7 +5,7 @@ use Prim.Native.Nat.{_+_, _-_, _≤_, _<_}
 use lib.ListN.{length, drop}
 use Rattle.framing.specs.Format.{formatOf}
 use Rattle.framing.specs.Frame.{front}
-use Rattle.reader.proofs.RoomLaws.{tail-part, mid-part}
+use Rattle.reader.proofs.HeldLaws.{tail-part, mid-part}
 use Rattle.reader.proofs.WalkLaws.{Walk, walk-start, handed-most, room-length, frame-ends, walk-skip, walk-frame, walk-end}
 use Rattle.reader.proofs.walk.walk.Statement.{statement}
 use Rattle.reader.proofs.walk.walk.Tie as tie

@@ -1,9 +1,9 @@
 use borrow.Author.Tests.{ne-eqb, le-leb, lt-leb}
-use Rattle.framing.proofs.shape.may_stand.Statement.{statement}
-use Rattle.framing.proofs.shape.may_stand.Tie as tie
+use Rattle.framing.proofs.shape.is_permitted.Statement.{statement}
+use Rattle.framing.proofs.shape.is_permitted.Tie as tie
 
-pub may-stand-spec : {M : Type 1} → statement M
-may-stand-spec =
+pub is-permitted-spec : {M : Type 1} → statement M
+is-permitted-spec =
     tie.close
     (tie.spec
     (λ c. rw (lt-leb 32 _ (c .if1 .taken)))
