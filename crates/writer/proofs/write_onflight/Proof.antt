@@ -3,6 +3,7 @@ use mathlib.Core.Path.{sym, refl, ap, _∙_}
 use mathlib.Core.List.{List, [], _∷_}
 use native.Mathlib.Omega.{arith}
 use lib.Seq.{length-take-le}
+use lib.ListN.{length}
 use borrow.Author.Needs.{needs}
 use borrow.Author.Tests.{eq-eqb, ne-eqb}
 use Rattle.checksum.specs.declared.Sums.{Sums}
@@ -17,7 +18,7 @@ unfolding takes onflightFrame onflightCovered
 write-onflight-spec =
     tie.close
     (tie.spec
-    (λ c. not-taken 5 _ _ (ne-eqb _ 152 (c .if1 .taken)))
+    (λ c. not-taken 5 _ _ (ne-eqb (length (c .before .before .before .args .payload .now)) 152 (search needs)))
     (λ c.
     let a = c .before .before .before .before .args in
     no-room 5 _ _ (eq-eqb _ 152 (c .before .if1 .left)) (onflight-length (a .payload .now)) (let h = c .before .if1 .left in omega arith))
