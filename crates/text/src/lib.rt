@@ -2,6 +2,9 @@
 pub mod answer;
 
 use libc::STDOUT_FILENO;
+ghost use mathlib.Core.Path.{_≡_};
+ghost use Prim.Native.Nat.{_%_};
+ghost use Rattle.writer.specs.Frames.{hexDigitOf};
 
 pub fn write(bytes: &[u8]) {
     io::write_all(STDOUT_FILENO, bytes);
@@ -61,9 +64,11 @@ pub fn write_f64(label: &[u8], x: f64) {
 }
 
 // The hexadecimal digit of n % 16, in capitals.
-pub fn digit(n: u8) -> u8 {
+pub fn digit(n: u8) -> u8
+    ensures { λ r. ⌜ r ≡ hexDigitOf (n % 16) ⌝ }
+{
     let d = n % 16;
-    if d < 10 { d + b'0' } else { d + 55 }
+    if d <= 9 { b'0' + d } else { b'A' - 10 + d }
 }
 
 pub fn write_hex(bytes: &[u8]) {
