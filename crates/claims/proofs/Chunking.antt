@@ -22,7 +22,7 @@ same-machine n cs ds k e =
     }
 
 -- an open machine that was delivered these bytes
-abbrev delivering : List ℕ → Machine
+abbrev pub delivering : List ℕ → Machine
 delivering d = record { delivered = d; closed = false }
 
 after-pieces : (f : Format) (d : List ℕ) (cs : List Call) → Pieces cs → Zeros (judgements f (delivering d) cs)

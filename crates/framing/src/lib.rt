@@ -4,7 +4,7 @@ pub mod shape;
 ghost use mathlib.Core.Path.{_≡_};
 ghost use Prim.Native.Nat.{_≤_};
 ghost use lib.ListN.{length};
-ghost use Rattle.framing.specs.Format.{mgl, onflight, nmea, formatOf, shortest};
+ghost use Rattle.framing.specs.Format.{mgl, onflight, nmea, formatOf, known, shortest};
 ghost use Rattle.framing.specs.Frame.{hexValue, good, front};
 
 // Why the bytes from a position on are no frame, by the earliest byte at which they stop being the start of a shape.
@@ -37,6 +37,18 @@ pub enum Found {
     Start,
     // Neither: the first byte is skipped.
     Neither(Reason),
+}
+
+// Whether a format is one of the three.
+pub fn is_known(format: u32) -> bool
+    ensures { λ b. ⌜ b ≡ known (formatOf format) ⌝ }
+{
+    match format {
+        1 => true,
+        2 => true,
+        3 => true,
+        _ => false,
+    }
 }
 
 // Whether the checksum of a whole MGL shape is right.

@@ -1,3 +1,2 @@
--- Laws of the set bits and of the ratios; and the proofs of the functions.
+-- Laws of the set bits; and the proofs of the functions.
 pub mod BitLaws
-pub mod RatioLaws

@@ -1,6 +1,3 @@
-// Fields of the OnFlight log's frames, at the offsets of the paper's table, counted from the start of the frame.
-pub mod position;
-pub mod ratio;
-pub mod sensor;
+// Status and times of the OnFlight log's frames, at the offsets of the paper's table, counted from the start of the frame.
 pub mod status;
 pub mod time;

@@ -4,23 +4,11 @@ use framing::Found;
 ghost use mathlib.Core.Path.{_≡_};
 ghost use Prim.Native.Nat.{_+_};
 ghost use lib.Dec.{ltb};
-ghost use Rattle.framing.specs.Format.{known, formatOf, pendingBound};
+ghost use Rattle.framing.specs.Format.{formatOf, pendingBound};
 ghost use Rattle.framing.specs.Shape.{scan};
 ghost use Rattle.reader.specs.State.{sum};
 ghost use Rattle.reader.specs.Refusal.{isStart, broken, refusal};
 ghost use Rattle.reader.specs.Private.{firstOf};
-
-// Whether a format is one of the three.
-pub(crate) fn is_known(format: u32) -> bool
-    ensures { λ b. ⌜ b ≡ known (formatOf format) ⌝ }
-{
-    match format {
-        1 => true,
-        2 => true,
-        3 => true,
-        _ => false,
-    }
-}
 
 // How many bytes can be pending.
 fn pending_bound(format: u32) -> u32
@@ -71,7 +59,7 @@ fn is_broken(r: Reader) -> bool
     ensures { λ b. ⌜ b ≡ broken r ⌝ }
 {
     let format = r.format;
-    if !is_known(format) {
+    if !framing::is_known(format) {
         return true;
     }
     if pending_bound(format) < r.pending {

@@ -65,7 +65,7 @@ impl Reader {
     pub fn fresh(format: u32) -> Opening
         ensures { λ o. ⌜ o ≡ freshOf format ⌝ }
     {
-        if judge::is_known(format) {
+        if framing::is_known(format) {
             return Opening {
                 answer: 0,
                 reader: empty(format, false),

@@ -3,11 +3,11 @@ use super::changed;
 use super::frames;
 use content::Judged;
 use content::PositionReading;
-use onflight::position::AltitudeReading;
-use onflight::position::FixReading;
-use onflight::ratio::RatioReading;
-use onflight::sensor::AxesReading;
-use onflight::sensor::VoltagesReading;
+use onflight_sensors::position::AltitudeReading;
+use onflight_sensors::position::FixReading;
+use onflight_sensors::ratio::RatioReading;
+use onflight_sensors::sensor::AxesReading;
+use onflight_sensors::sensor::VoltagesReading;
 use text::answer;
 use text::write;
 use text::write_f64;
@@ -34,7 +34,7 @@ fn status(s: &[u8]) {
 }
 
 fn voltages(s: &[u8]) {
-    match onflight::sensor::read_voltages(s) {
+    match onflight_sensors::sensor::read_voltages(s) {
         VoltagesReading::Read { input, filtered } => {
             write_u8(b"voltages ", input);
             write_u8(b" ", filtered);
@@ -57,7 +57,7 @@ fn axes(label: &[u8], reading: AxesReading) {
 }
 
 fn fix(s: &[u8]) {
-    match onflight::position::read_fix(s) {
+    match onflight_sensors::position::read_fix(s) {
         FixReading::Read { fix, satellites } => {
             write_u8(b"fix ", fix);
             write_u8(b" satellites ", satellites);
@@ -103,16 +103,37 @@ fn all(s: &[u8]) {
     answer::number(b"boot time ", onflight::time::read_boot_time(s));
     answer::clock(b"clock ", onflight::time::read_clock(s));
     voltages(s);
-    axes(b"accelerations ", onflight::sensor::read_accelerations(s));
-    axes(b"gyros ", onflight::sensor::read_gyros(s));
-    answer::number(b"pressure ", onflight::sensor::read_pressure(s));
+    axes(
+        b"accelerations ",
+        onflight_sensors::sensor::read_accelerations(s),
+    );
+    axes(b"gyros ", onflight_sensors::sensor::read_gyros(s));
+    answer::number(b"pressure ", onflight_sensors::sensor::read_pressure(s));
     fix(s);
-    position(b"gnss position ", onflight::position::read_gnss_position(s));
-    position(b"ins position ", onflight::position::read_ins_position(s));
-    altitude(b"gnss altitude ", onflight::position::read_gnss_altitude(s));
-    altitude(b"ins altitude ", onflight::position::read_ins_altitude(s));
-    ratio(b"input voltage ", onflight::ratio::read_input_voltage(s));
-    ratio(b"load factor ", onflight::ratio::read_load_factor(s));
+    position(
+        b"gnss position ",
+        onflight_sensors::position::read_gnss_position(s),
+    );
+    position(
+        b"ins position ",
+        onflight_sensors::position::read_ins_position(s),
+    );
+    altitude(
+        b"gnss altitude ",
+        onflight_sensors::position::read_gnss_altitude(s),
+    );
+    altitude(
+        b"ins altitude ",
+        onflight_sensors::position::read_ins_altitude(s),
+    );
+    ratio(
+        b"input voltage ",
+        onflight_sensors::ratio::read_input_voltage(s),
+    );
+    ratio(
+        b"load factor ",
+        onflight_sensors::ratio::read_load_factor(s),
+    );
 }
 
 fn fixes() {

@@ -1,0 +1,16 @@
+use borrow.Author.Needs.{needs}
+use Rattle.lent.proofs.LentLaws.{serve-no-reader, settles}
+use Rattle.lent.proofs.piece.Statement.{statement}
+use Rattle.lent.proofs.piece.Tie as tie
+
+pub piece-spec : {M : Type 1} → statement M
+piece-spec =
+    tie.close
+    (tie.spec
+    (λ c. serve-no-reader _ _ (c .if1 .taken))
+    (λ c κs. search needs)
+    (λ c κs. search needs)
+    (λ c κs. search needs)
+    (λ c. search needs)
+    (λ c. search needs)
+    (λ c. settles _ _ _ _ _ _ _ (c .before .before .before .before .before .before .before .before .before .before .if1 .left) (c .before .before .before .before .before .before .before .before .decode .ensures) (c .before .before .before .before .before .before .piece .ensures) (c .before .before .settle .ensures)))

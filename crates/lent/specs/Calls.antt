@@ -1,0 +1,33 @@
+-- What a call on a reader's bytes gives (docs/INTERFACE.md, "Readers").
+use Prim.Native.Nat.{ℕ}
+use mathlib.Core.Bool.{cond}
+use mathlib.Core.List.{List, []}
+use lib.Dec.{eqb}
+use lib.ListN.{length}
+use Rattle.reader.specs.State.{freshOf}
+use Rattle.reader.specs.Calls.{Call, roomOf, Returned, serve}
+use Rattle.lent.specs.Bytes.{readerLength, encode, decode}
+
+-- A call as it returns: its answer, the reader's bytes, and the room.
+pub record Lent : Type 0 where
+  pub answer : ℕ
+  pub reader : List ℕ
+  pub room : List ℕ
+
+abbrev pub lent : ℕ → List ℕ → List ℕ → Lent
+lent a bs room = record { answer = a; reader = bs; room = room }
+
+-- An accepted call leaves the bytes of the reader that it returned; a refusal leaves the bytes as they were, whatever they were.
+abbrev pub settled : List ℕ → List ℕ → Returned → Lent
+settled bs room g =
+    cond (eqb (g .outcome .answer) 0) (lent 0 (encode (g .outcome .reader)) (g .room)) (lent (g .outcome .answer) bs room)
+
+-- A call on a reader's bytes. Bytes of another length hold no reader: refusal 11.
+unfoldable pub serveLent : List ℕ → Call → Lent
+serveLent bs c =
+    cond (eqb (length bs) readerLength) (settled bs (roomOf c) (serve (decode bs) c)) (lent 11 bs (roomOf c))
+
+-- A fresh reader is laid in the bytes, the refused one too: they are where it is handed back. Bytes of another length are untouched.
+unfoldable pub freshLent : ℕ → List ℕ → Lent
+freshLent n bs =
+    cond (eqb (length bs) readerLength) (lent (freshOf n .answer) (encode (freshOf n .reader)) []) (lent 11 bs [])

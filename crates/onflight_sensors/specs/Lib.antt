@@ -1,0 +1,4 @@
+-- What the contracts of `onflight_sensors` cite.
+pub mod Sensor
+pub mod Position
+pub mod Ratio

@@ -1,0 +1,3 @@
+-- Laws that the functions' proofs cite, and the theorem of a whole capture.
+pub mod StepLaws
+pub mod WholeProof

@@ -1,0 +1,95 @@
+-- A capture read to its end, by induction on its pieces: the tally is all along that of the plain machine, which refuses none of them.
+-- Assumes nothing.
+use Prim.Native.Nat.{ℕ, _+_, _≤_, _%_, _^_}
+use mathlib.Core.Path.{_≡_, refl}
+use mathlib.Core.Bool.{true, false}
+use mathlib.Core.List.{List, [], _∷_, _++_, append-assoc, append-nil}
+use native.Mathlib.Omega.{arith}
+use native.Mathlib.Nat.{mod-eq-of-lt}
+use lib.Dec.{T}
+use lib.ListN.{length, length-append}
+use borrow.Author.Tests.{le-ltb}
+use Rattle.framing.specs.Format.{Format, known, formatOf}
+use Rattle.framing.specs.Reading.{ongoing, read, frameCount, pendingCount}
+use Rattle.framing.proofs.ReadingLaws.{read-nil, closing-rest, pending-bound}
+use Rattle.reader.specs.Calls.{Call, aPiece, aClose, bytesOf, roomOf, modeOf}
+use Rattle.reader.proofs.JudgeLaws.{bound-most}
+use Rattle.reader.proofs.StepLaws.{frames-most}
+use Rattle.claims.specs.Machine.{Machine, start, judge, accepted}
+use Rattle.claims.specs.Demand3.{delivery}
+use Rattle.claims.proofs.Chunking.{delivering}
+use Rattle.claims.proofs.View.{readingAt, view, WithinLimit, view-sum, view-fresh, one-call}
+use Rattle.tally.specs.declared.Tally.{Tally}
+use Rattle.tally.specs.Step.{freshTally, step, sheetOf}
+use Rattle.tally.specs.Whole.{tallied, Feeding, WholeCapture}
+
+-- the tally as read off the machine: nothing was refused, and the frames are those of its reading
+abbrev tallyOf : ℕ → Machine → Tally
+tallyOf n m = record { answer = 0; frames = frameCount (readingAt n m); reader = view n m }
+
+-- ---- one call
+
+-- What the machine asks of a call that it accepts.
+record Fed (m : Machine) (c : Call) : Type 0 where
+  unclosed : m .closed ≡ false
+  short : length (bytesOf c) ≤ 4096
+  fits : length (m .delivered) + length (bytesOf c) ≤ 4294967295
+  roomy : 4371 ≤ length (roomOf c)
+
+fed-judged : (f : Format) (m : Machine) (c : Call) → Fed m c → judge f m c ≡ 0
+unfolding judge
+fed-judged f m c h =
+    let p = pending-bound ongoing f (m .delivered) in
+    rw (
+      h .unclosed,
+      le-ltb 4096 (length (bytesOf c)) (h .short),
+      le-ltb 4294967295 (length (m .delivered) + length (bytesOf c)) (h .fits),
+      le-ltb (length (roomOf c)) (pendingCount (read ongoing f (m .delivered)) + length (bytesOf c)) (omega (arith, bound-most f, p, h .short, h .roomy)),
+    )
+
+-- No more frames than bytes: 32 bits count them.
+frames-fit : (n : ℕ) (m : Machine) → WithinLimit m → frameCount (readingAt n m) % 2 ^ 32 ≡ frameCount (readingAt n m)
+frames-fit n m h = mod-eq-of-lt (omega (arith, frames-most (modeOf (m .closed)) (formatOf n) (m .delivered), view-sum n m))
+
+fed-step : (n : ℕ) (m : Machine) (c : Call) → T (known (formatOf n)) → Fed m c → step (tallyOf n m) c .tally ≡ tallyOf n (accepted m c)
+unfolding step
+fed-step n m c k h =
+    let w : WithinLimit m = omega (arith, h .fits) in
+    let s = one-call n m c k w in
+    let z = fed-judged (formatOf n) m c h in
+    rw (s .answer, s .reader, s .count, z, frames-fit n (accepted m c) (rw z at (s .fits)))
+
+-- ---- all pieces, and the close
+
+all-pieces : (n : ℕ) (d : List ℕ) (cs : List Call) → T (known (formatOf n)) → Feeding cs → length (d ++ delivery cs) ≤ 4294967295
+    → tallied (tallyOf n (delivering d)) cs ≡ tallyOf n (delivering (d ++ delivery cs))
+unfolding tallied
+all-pieces n d [] k p h = rw append-nil
+all-pieces n d (aPiece bs room ∷ cs) k p h =
+    let g : length ((d ++ bs) ++ delivery cs) ≤ 4294967295 = rw append-assoc h in
+    let fits : length d + length bs ≤ 4294967295 = omega (arith, simp length-append at g) in
+    rw (fed-step n (delivering d) (aPiece bs room) k (record { unclosed = refl; short = omega (arith, p .0); fits = fits; roomy = omega (arith, p .1 .0) }), ← append-assoc)
+    (all-pieces n (d ++ bs) cs k (p .1 .1) g)
+all-pieces n d (aClose room ∷ cs) k p h = absurd p
+
+-- the tally of no bytes is the fresh one
+fresh-is : (n : ℕ) → T (known (formatOf n)) → freshTally n ≡ tallyOf n start
+unfolding freshTally
+fresh-is n k = rw (view-fresh n k, read-nil ongoing (formatOf n))
+
+-- a machine whose close was accepted
+abbrev ended : List ℕ → Machine
+ended d = record { delivered = d; closed = true }
+
+all-read : (n : ℕ) (cs : List Call) (room : List ℕ) → T (known (formatOf n)) → Feeding cs → 4371 ≤ length room → length (delivery cs) ≤ 4294967295
+    → step (tallied (freshTally n) cs) (aClose room) .tally ≡ tallyOf n (ended (delivery cs))
+all-read n cs room k p r h =
+    let bs : List ℕ = delivery cs in
+    let e = fed-step n (delivering bs) (aClose room) k (record { unclosed = refl; short = omega arith; fits = omega arith; roomy = omega arith }) in
+    rw (fresh-is n k, all-pieces n [] cs k p h, e, append-nil bs)
+
+pub whole-capture : WholeCapture
+unfolding sheetOf
+whole-capture n cs room k p r h =
+    let e = all-read n cs room k p r h in
+    record { accepted = rw e; sheet = rw (e, closing-rest (formatOf n) (delivery cs)) }

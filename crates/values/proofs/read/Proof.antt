@@ -1,0 +1,20 @@
+use borrow.Author.Needs.{needs}
+use Rattle.framing.specs.Format.{formatOf}
+use Rattle.framing.proofs.FormatLaws.{no-format}
+use Rattle.values.specs.Readings.{readings, readingOf}
+use Rattle.values.proofs.read.Statement.{statement}
+use Rattle.values.proofs.read.Tie as tie
+
+pub read-spec : {M : Type 1} → statement M
+unfolding formatOf readings readingOf
+read-spec =
+    tie.close
+    (tie.spec
+    (λ c κs. search needs)
+    (λ c κs. search needs)
+    (λ c κs. search needs)
+    (λ c κs. search needs)
+    (λ c. rw (c .before .match .keys1) (c .read .ensures))
+    (λ c. rw (c .before .match .keys2) (c .read2 .ensures))
+    (λ c. rw (c .before .match .keys3) (c .read3 .ensures))
+    (λ c. rw (no-format _ (c .before .match .rest .0 .0 .1) (c .before .match .rest .0 .1) (c .before .match .rest .1)) (c .none .ensures)))

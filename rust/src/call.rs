@@ -1,0 +1,99 @@
+//! The calls of the library, made safe: slices for pointers, and a [`Refusal`] for a number that is not 0.
+
+use crate::ffi;
+use crate::row::Row;
+use crate::Refusal;
+
+/// Lays a fresh reader in the reader's bytes.
+pub fn fresh(format: u32, reader: &mut [u8]) -> Result<(), Refusal> {
+    // SAFETY: the slice is initialised and lent to this call alone.
+    let number = unsafe { ffi::capture_fresh(format, reader.as_mut_ptr(), reader.len()) };
+    Refusal::judge(number)
+}
+
+/// Reads a piece.
+pub fn piece(reader: &mut [u8], piece: &[u8], room: &mut [u8]) -> Result<(), Refusal> {
+    // SAFETY: the slices are initialised; two of them are lent mutably, so that none overlaps another.
+    let number = unsafe {
+        ffi::capture_piece(
+            reader.as_mut_ptr(),
+            reader.len(),
+            piece.as_ptr(),
+            piece.len(),
+            room.as_mut_ptr(),
+            room.len(),
+        )
+    };
+    Refusal::judge(number)
+}
+
+/// Ends the line.
+pub fn close(reader: &mut [u8], room: &mut [u8]) -> Result<(), Refusal> {
+    // SAFETY: both slices are initialised and lent mutably, so that they do not overlap.
+    let number = unsafe { ffi::capture_close(reader.as_mut_ptr(), reader.len(), room.as_mut_ptr(), room.len()) };
+    Refusal::judge(number)
+}
+
+/// A reading of a frame.
+pub fn read(reading: u32, frame: &[u8]) -> Result<Row, Refusal> {
+    read_item(reading, 0, frame)
+}
+
+/// A reading of an item of a frame.
+pub fn read_item(reading: u32, item: u32, frame: &[u8]) -> Result<Row, Refusal> {
+    // SAFETY: the slice is initialised and only read.
+    Row::judge(unsafe { ffi::capture_read(reading, item, frame.as_ptr(), frame.len()) })
+}
+
+/// The part of a frame that a reading of its place names.
+pub fn part(reading: u32, frame: &[u8]) -> Result<&[u8], Refusal> {
+    let mut row = read(reading, frame)?;
+    Ok(&frame[row.next()..row.next()])
+}
+
+/// A reading of a frame that is a float.
+pub fn ratio(reading: u32, frame: &[u8]) -> Result<f64, Refusal> {
+    // SAFETY: the slice is initialised and only read.
+    let answer = unsafe { ffi::capture_ratio(reading, frame.as_ptr(), frame.len()) };
+    Refusal::judge(answer.number).map(|()| answer.value)
+}
+
+/// The time from one frame to another.
+pub fn elapsed(from: &[u8], to: &[u8]) -> Result<Row, Refusal> {
+    // SAFETY: the slices are initialised and only read.
+    Row::judge(unsafe { ffi::capture_elapsed(from.as_ptr(), from.len(), to.as_ptr(), to.len()) })
+}
+
+/// The rate that a gyro number stands for.
+pub fn gyro(number: i16) -> i32 {
+    // SAFETY: the call takes and gives a number.
+    unsafe { ffi::capture_gyro(number) }
+}
+
+/// The gyro number that stands for a rate.
+pub fn write_gyro(rate: i32) -> Result<Row, Refusal> {
+    // SAFETY: the call takes a number and gives numbers.
+    Row::judge(unsafe { ffi::capture_write_gyro(rate) })
+}
+
+/// Writes a whole frame.
+pub fn write(format: u32, header: [u8; 4], body: &[u8], room: &mut [u8]) -> Result<usize, Refusal> {
+    let header = u32::from_le_bytes(header);
+    // SAFETY: the slices are initialised; the room is lent mutably, so that the body does not overlap it.
+    let written =
+        unsafe { ffi::capture_write(format, header, body.as_ptr(), body.len(), room.as_mut_ptr(), room.len()) };
+    Refusal::judge(written.number).map(|()| written.length)
+}
+
+/// Writes a PLARS sentence.
+pub fn write_setting(source: u8, parameter: u8, value: u32, room: &mut [u8]) -> Result<usize, Refusal> {
+    // SAFETY: the room is initialised and lent to this call alone.
+    let written = unsafe { ffi::capture_write_setting(source, parameter, value, room.as_mut_ptr(), room.len()) };
+    Refusal::judge(written.number).map(|()| written.length)
+}
+
+/// An entry of a bench file.
+pub fn entry(first: &[u8], file_len: u64, item: u32) -> Result<Row, Refusal> {
+    // SAFETY: the slice is initialised and only read.
+    Row::judge(unsafe { ffi::capture_entry(first.as_ptr(), first.len(), file_len, item) })
+}

@@ -1,0 +1,33 @@
+//! The values of an answer, taken one after the other, each as the type it has.
+
+use crate::ffi;
+use crate::Refusal;
+
+/// The values of an answer that are not taken yet.
+pub struct Row {
+    values: std::array::IntoIter<i64, { ffi::VALUES }>,
+}
+
+impl Row {
+    /// The values, or the refusal.
+    pub fn judge(answer: ffi::Values) -> Result<Row, Refusal> {
+        Refusal::judge(answer.number).map(|()| Row { values: answer.values.into_iter() })
+    }
+
+    /// The next value. The library promises that it fits; where it does not, the library is not the one that this
+    /// crate was written for, and nothing it says can be used.
+    pub fn next<T: TryFrom<i64>>(&mut self) -> T {
+        let value = self.values.next().expect("no reading has more values than an answer has room for");
+        T::try_from(value).unwrap_or_else(|_| misfit(value))
+    }
+
+    /// The next value as a mark: 0 for no, any other number for yes.
+    pub fn next_mark(&mut self) -> bool {
+        self.next::<i64>() != 0
+    }
+}
+
+/// Stops the program: the library answered what it never answers.
+pub fn misfit(value: i64) -> ! {
+    panic!("libcapi.a answered {value} in a place where it cannot stand: the archive does not belong to this crate")
+}
