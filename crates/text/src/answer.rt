@@ -1,4 +1,4 @@
-// What the readings answer: a refusal, a number, a clock, a header.
+// What the readings answer: a refusal, a clock, a header.
 use super::write;
 use super::write_i64;
 use super::write_u8;
@@ -6,21 +6,12 @@ use super::write_u32;
 use calendar::Clock;
 use calendar::Field;
 use content::ClockReading;
-use content::NumberReading;
 use content::Refusal;
 use mgl::HeaderReading;
 
 pub fn refused(label: &[u8], r: Refusal) {
     write(label);
     write_u32(b"refused ", content::number_of(r));
-}
-
-pub fn number(label: &[u8], reading: NumberReading) {
-    match reading {
-        NumberReading::Read(n) => write_u32(label, n),
-        NumberReading::Refused(r) => refused(label, r),
-    }
-    write(b"\n");
 }
 
 fn wrong(label: &[u8], field: Field) {

@@ -53,16 +53,6 @@ pub fn write_u8(label: &[u8], n: u8) {
     write_u64(label, n as u64);
 }
 
-// The bits, in hexadecimal: digits after a point would be rounded. Only a NaN, whose bits are undefined, differs from itself.
-pub fn write_f64(label: &[u8], x: f64) {
-    write(label);
-    if x == x {
-        io::print_hex(STDOUT_FILENO, f64::to_bits(x), 16);
-    } else {
-        write(b"nan");
-    }
-}
-
 // The hexadecimal digit of n % 16, in capitals.
 pub fn digit(n: u8) -> u8
     ensures { λ r. ⌜ r ≡ hexDigitOf (n % 16) ⌝ }
