@@ -1,5 +1,6 @@
 // Checksums of the three formats: CRC-32 (MGL), Fletcher-16 modulo 255 (OnFlight) and exclusive or (NMEA).
 ghost use mathlib.Core.Path.{_≡_};
+ghost use Prim.Native.Nat.{_+_, _%_};
 ghost use Rattle.checksum.specs.Xor.{xorOf};
 ghost use Rattle.checksum.specs.Fletcher.{fletcherOf};
 ghost use Rattle.checksum.specs.Crc.{bitSteps, crcOf};
@@ -31,21 +32,30 @@ fn wide(x: u8) -> u32
     x as u32
 }
 
+// A sum modulo 255, with 255 standing for 0 too: a carry out of the byte counts 1, since 256 is 1 modulo 255. So there is no division,
+// and no choice either.
+fn add_around(a: u8, x: u8) -> u8
+    ensures { λ r. ⌜ r % 255 ≡ (a + x) % 255 ⌝ }
+{
+    let sum = std::num::wrapping_add_u8(a, x);
+    if sum < x { sum + 1 } else { sum }
+}
+
 // Fletcher's two sums of the bytes.
 pub fn fletcher16(s: &[u8]) -> Sums
     ensures { λ r. ⌜ r ≡ fletcherOf (now (s .entry)) ⌝ }
 {
-    let mut a: u32 = 0;
-    let mut b: u32 = 0;
+    let mut a: u8 = 0;
+    let mut b: u8 = 0;
     let mut i = 0;
     while i < s.len() {
-        a = (a + wide(s[i])) % 255;
-        b = (b + a) % 255;
+        a = add_around(a, s[i]);
+        b = add_around(b, a);
         i += 1;
     }
     Sums {
-        plain: a as u8,
-        weighted: b as u8,
+        plain: a % 255,
+        weighted: b % 255,
     }
 }
 

@@ -1,7 +1,9 @@
 -- Laws of the formats, their shapes, frames and readings, each proved once over the format; and the proofs of the functions.
+pub mod BodyLaws
 pub mod FormatLaws
 pub mod FrameLaws
 pub mod HeadLaws
+pub mod IdleLaws
 pub mod Length
 pub mod LineLaws
 pub mod ReadingLaws

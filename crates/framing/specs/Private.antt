@@ -1,13 +1,14 @@
 -- What private functions promise. Nothing public rests on these definitions.
-use Prim.Native.Nat.{ℕ, zero, suc}
-use mathlib.Core.Bool.{Bool, cond}
-use mathlib.Core.List.{List}
+use Prim.Native.Nat.{ℕ, zero, suc, _≤_, _<_}
+use mathlib.Core.Path.{_≡_}
+use mathlib.Core.Bool.{Bool, true, false, cond}
+use mathlib.Core.List.{List, [], _∷_}
 use lib.Dec.{eqb}
 use lib.ListN.{length, getD}
 use Rattle.framing.specs.declared.Reason.the-variants.{StartByte, SecondByte}
 use Rattle.framing.specs.declared.Scanned.{Scanned}
 use Rattle.framing.specs.declared.Scanned.the-variants.{Whole, Partial, Broken}
-use Rattle.framing.specs.Shape.{hexDigit}
+use Rattle.framing.specs.Shape.{permitted, hexDigit}
 
 -- what some bytes are to a shape of the two bytes a and b
 unfoldable pub syncOf : ℕ → ℕ → List ℕ → Scanned
@@ -24,3 +25,22 @@ endingByte (suc zero) b = hexDigit b
 endingByte (suc (suc zero)) b = hexDigit b
 endingByte (suc (suc (suc zero))) b = eqb b 0x0D
 endingByte (suc (suc (suc (suc m)))) b = eqb b 0x0A
+
+-- the bytes of s from place a on and before place e may stand in the body of a sentence
+abbrev pub Permitted : ℕ → ℕ → List ℕ → Type 0
+Permitted a e s = (j : ℕ) → a ≤ j → j < e → permitted (getD s j 0) ≡ true
+
+-- a body that starts at place 1 reaches place k
+pub record Reached (k : ℕ) (s : List ℕ) : Type 0 where
+  pub some : 0 < k
+  pub inside : k ≤ length s
+  pub body : Permitted 1 k s
+
+-- byte k, where there is one and it is at place 77 or before, may not stand in a body
+abbrev pub Stops : ℕ → List ℕ → Type 0
+Stops k s = k ≤ 77 → k < length s → permitted (getD s k 0) ≡ false
+
+-- how many bytes stand before the first a
+unfoldable pub before : ℕ → List ℕ → ℕ
+before a [] = 0
+before a (x ∷ xs) = cond (eqb x a) 0 (suc (before a xs))

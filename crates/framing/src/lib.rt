@@ -6,6 +6,8 @@ ghost use Prim.Native.Nat.{_≤_};
 ghost use lib.ListN.{length};
 ghost use Rattle.framing.specs.Format.{mgl, onflight, nmea, formatOf, known, shortest};
 ghost use Rattle.framing.specs.Frame.{hexValue, good, front};
+ghost use Rattle.framing.specs.Idle.{idle};
+ghost use Rattle.framing.specs.Private.{before};
 
 // Why the bytes from a position on are no frame, by the earliest byte at which they stop being the start of a shape.
 pub enum Reason {
@@ -57,7 +59,7 @@ fn good_mgl(s: &[u8]) -> bool
     ensures { λ r. ⌜ r ≡ good mgl (now (s .entry)) ⌝ }
 {
     let e = s.len() - 4;
-    checksum::crc32(&s[4..e]) == numbers::u32_at(s, e)
+    slicing::crc32(&s[4..e]) == numbers::u32_at(s, e)
 }
 
 // Whether the checksum of a whole OnFlight shape is right.
@@ -73,17 +75,15 @@ fn good_onflight(s: &[u8]) -> bool
     sums.weighted == s[e + 1]
 }
 
-// The value of a hexadecimal digit.
+// The value of a hexadecimal digit. Digits and letters are told apart by what to take away, and not by a branch.
 fn hex_value(b: u8) -> u8
     ensures { λ r. ⌜ r ≡ hexValue b ⌝ }
 {
-    if b < b'0' {
+    let base = if b <= b'9' { b'0' } else { 0x37 };
+    if b < base {
         return 0;
     }
-    if b <= b'9' {
-        return b - b'0';
-    }
-    b - 0x37
+    b - base
 }
 
 // Whether the checksum of a whole NMEA shape is right.
@@ -123,5 +123,31 @@ pub fn front(format: u32, s: &[u8]) -> Found
         }
         Scanned::Partial => Found::Start,
         Scanned::Broken(r) => Found::Neither(r),
+    }
+}
+
+// How many bytes stand before the first that is `first`.
+fn bytes_before(s: &[u8], first: u8) -> usize
+    ensures { λ r. ⌜ r ≡ before first (now (s .entry)) ⌝ }
+{
+    let mut k: usize = 0;
+    while k < s.len() {
+        if s[k] == first {
+            return k;
+        }
+        k += 1;
+    }
+    k
+}
+
+// How many bytes from the start on begin no shape of a format: a reading skips them one by one.
+pub fn idle(format: u32, s: &[u8]) -> usize
+    ensures { λ r. ⌜ r ≡ idle (formatOf format) (now (s .entry)) ⌝ }
+{
+    match format {
+        1 => bytes_before(s, 0x05),
+        2 => bytes_before(s, 0x42),
+        3 => bytes_before(s, b'$'),
+        _ => s.len(),
     }
 }

@@ -1,16 +1,16 @@
-// The shapes of the formats. A length-counted shape is known from its head; a sentence is gone through byte by byte.
+// The shapes of the formats. A length-counted shape is known from its head; a sentence is gone through to its end.
 use super::Reason;
 use super::Scanned;
 ghost use mathlib.Core.Path.{_≡_};
 ghost use mathlib.Core.Bool.{cond};
-ghost use Prim.Native.Nat.{_≤_, _<_};
+ghost use Prim.Native.Nat.{_+_, _≤_, _<_, min};
 ghost use lib.Dec.{leb, eqb};
 ghost use lib.ListN.{length, drop};
 ghost use Rattle.framing.specs.declared.Scanned.the-variants.{Whole, Partial, Broken};
 ghost use Rattle.framing.specs.declared.Reason.the-variants.{StartByte};
 ghost use Rattle.framing.specs.Format.{mgl, onflight, nmea, formatOf};
 ghost use Rattle.framing.specs.Shape.{permitted, hexDigit, scanFrom, scan};
-ghost use Rattle.framing.specs.Private.{syncOf, endingByte};
+ghost use Rattle.framing.specs.Private.{syncOf, endingByte, Permitted, Reached, Stops};
 
 // The two fixed bytes that a binary frame starts with.
 fn sync(s: &[u8], first: u8, second: u8) -> Scanned
@@ -149,6 +149,90 @@ fn ending(s: &[u8], from: usize) -> Scanned
     Scanned::Partial
 }
 
+fn min_u8(a: u8, b: u8) -> u8
+    ensures { λ r. ⌜ r ≡ min a b ⌝ }
+{
+    if a < b {
+        return a;
+    }
+    b
+}
+
+fn min_usize(a: usize, b: usize) -> usize
+    ensures { λ r. ⌜ r ≡ min a b ⌝ }
+{
+    if a < b {
+        return a;
+    }
+    b
+}
+
+// i, where byte i of a block may not stand in a body, and else the block's length.
+fn refused_at(i: u8, b: u8) -> u8
+    ensures { λ r. ⌜ r ≡ cond (permitted b) 32 i ⌝ }
+{
+    if is_permitted(b) {
+        return 32;
+    }
+    i
+}
+
+// How many of 32 bytes may stand in a body, up to the first that may not: the least of 32 numbers, in a loop with one way out, so
+// that the compiler tests 16 bytes at once.
+fn block(s: &[u8], from: usize) -> u8
+    requires { ⌜ from + 32 ≤ length (now s) ⌝ }
+    ensures { λ r. ⌜ (r ≤ 32) × Permitted from (from + r) (now (s .entry)) ⌝ }
+{
+    let mut n: u8 = 32;
+    let mut i: u8 = 0;
+    while i < 32 {
+        n = min_u8(n, refused_at(i, s[from + i as usize]));
+        i += 1;
+    }
+    n
+}
+
+// A place that the body reaches, block by block. The last block is the last 32 bytes, some of which may be passed already.
+fn blocks(s: &[u8]) -> usize
+    requires { ⌜ 0 < length (now s) ⌝ }
+    ensures { λ r. ⌜ Reached r (now (s .entry)) ⌝ }
+{
+    let mut k: usize = 1;
+    if s.len() <= 32 {
+        return k;
+    }
+    // In a storm of starts bodies end at once.
+    if s[1] == b'$' {
+        return k;
+    }
+    let last = s.len() - 32;
+    while k < s.len() && k < 77 {
+        let from = min_usize(k, last);
+        let n = block(s, from) as usize;
+        k = from + n;
+        if n < 32 {
+            return k;
+        }
+    }
+    k
+}
+
+// Where the body ends: at a byte that may not stand in it, or where no byte is left, or somewhere after place 77.
+fn body(s: &[u8]) -> usize
+    requires { ⌜ 0 < length (now s) ⌝ }
+    ensures { λ r. ⌜ Reached r (now (s .entry)) × Stops r (now (s .entry)) ⌝ }
+{
+    let mut k = blocks(s);
+    while k <= 77 && k < s.len() {
+        if !is_permitted(s[k]) {
+            return k;
+        }
+        k += 1;
+    }
+    k
+}
+
+// `$`, a body of 1 to 76 bytes, and the end.
 fn nmea(s: &[u8]) -> Scanned
     ensures { λ r. ⌜ r ≡ scan nmea (now (s .entry)) ⌝ }
 {
@@ -158,23 +242,17 @@ fn nmea(s: &[u8]) -> Scanned
     if s[0] != b'$' {
         return Scanned::Broken(Reason::StartByte);
     }
-    let mut k: usize = 1;
-    while k < s.len() {
-        if s[k] == b'*' {
-            if k == 1 {
-                return Scanned::Broken(Reason::BodyByte);
-            }
-            return ending(s, k + 1);
-        }
-        if !is_permitted(s[k]) {
-            return Scanned::Broken(Reason::BodyByte);
-        }
-        if 77 <= k {
-            return Scanned::Broken(Reason::BodyTooLong);
-        }
-        k += 1;
+    let k = body(s);
+    if 77 < k {
+        return Scanned::Broken(Reason::BodyTooLong);
     }
-    Scanned::Partial
+    if k == s.len() {
+        return Scanned::Partial;
+    }
+    if s[k] == b'*' && 1 < k {
+        return ending(s, k + 1);
+    }
+    Scanned::Broken(Reason::BodyByte)
 }
 
 // What n bytes are to a format that has no shape.

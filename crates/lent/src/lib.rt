@@ -3,7 +3,9 @@ use reader::Outcome;
 use reader::Reader;
 ghost use mathlib.Core.Path.{_≡_};
 ghost use mathlib.Core.List.{[]};
+ghost use Prim.Native.Nat.{_+_, _≤_};
 ghost use lib.ListN.{length, take, drop};
+ghost use Rattle.numbers.specs.Low.{low};
 ghost use Rattle.reader.specs.Calls.{aPiece, aClose};
 ghost use Rattle.lent.specs.Bytes.{encode, decode};
 ghost use Rattle.lent.specs.Calls.{lent, serveLent, freshLent};
@@ -28,17 +30,28 @@ fn held_of(bytes: &[u8]) -> [u8; Reader::HELD]
     held
 }
 
+// The number of four bytes that are there, so that no length is tested.
+fn word(bytes: &[u8], at: usize) -> u32
+    requires { ⌜ at + 4 ≤ length (now bytes) ⌝ }
+    ensures { λ r. ⌜ r ≡ low 4 (now (bytes .entry)) at ⌝ }
+{
+    bytes[at] as u32
+        + bytes[at + 1] as u32 * 0x100
+        + bytes[at + 2] as u32 * 0x1_0000
+        + bytes[at + 3] as u32 * 0x100_0000
+}
+
 // The reader that the bytes say, whatever they are.
 fn decode(bytes: &[u8]) -> Reader
     requires { ⌜ length (now bytes) ≡ 295 ⌝ }
     ensures { λ r. ⌜ r ≡ decode (now (bytes .entry)) ⌝ }
 {
     Reader {
-        format: numbers::u32_at(bytes, 0),
-        closed: numbers::u32_at(bytes, 4) != 0,
-        framed: numbers::u32_at(bytes, 8),
-        skipped: numbers::u32_at(bytes, 12),
-        pending: numbers::u32_at(bytes, 16),
+        format: word(bytes, 0),
+        closed: word(bytes, 4) != 0,
+        framed: word(bytes, 8),
+        skipped: word(bytes, 12),
+        pending: word(bytes, 16),
         held: held_of(bytes),
     }
 }

@@ -17,7 +17,7 @@ use Rattle.framing.specs.Reading.{closing, framed, skipped, read, joined}
 use Rattle.framing.proofs.ReadingLaws.{read-nil, closing-rest, balance}
 use Rattle.reader.specs.declared.walk.Walked.{Walked}
 use Rattle.reader.specs.Private.{frameLength, countsOf}
-use Rattle.reader.proofs.HeldLaws.{tail-part}
+use Rattle.reader.proofs.HeldLaws.{tail-part, laid-on}
 use Rattle.reader.proofs.StepLaws.{Step, frame-inside, frame-step, skip-step, close-step, frames-most}
 
 -- what going through xs to the end answers and leaves
@@ -83,11 +83,7 @@ module _ (f : Format) (xs room : List ℕ) (w : Walked) where
       let s = frame-step closing f xs n e in
       let l : length (take n xs) ≡ n = length-take-le n xs (s .inside) in
       let p : room₁ ≡ take n xs ++ drop (length (take n xs)) room = put ∙ start-copied (take n xs) room (omega (arith, l, s .inside)) in
-      let back : drop n room₁ ≡ drop (length (take n xs)) room =
-      ap (drop n) p ∙ drop-at (take n xs) (drop (length (take n xs)) room) n l in
-      let fore : take n room₁ ≡ take n xs = ap (take n) p ∙ take-at (take n xs) (drop (length (take n xs)) room) n l in
-      let none : drop (length room₁ - n) (drop n room₁) ≡ [] = drop-of-length-le (drop n room₁) {i = length room₁ - n} (rw (length-drop n room₁) (omega arith)) in
-      let g : Finished f (drop n xs) (drop (length (take n xs)) room) w ys = rw (tail-part xs n, tail-part room₁ n, back) at rest in (
+      let g : Finished f (drop n xs) (take (length room₁ - n) (drop n room₁)) w ys = rw (tail-part xs n) at rest in (
         rw (s .reads, g .0, l) (same (omega arith) (omega arith) (omega arith)),
-        rw (s .reads, fore, none, append-nil ys, g .1) (lay-behind (take n xs) (joined (read closing f (drop n xs) .events)) room),
+        rw (s .reads) (laid-on (take n xs) (joined (read closing f (drop n xs) .events)) room room₁ ys n l p (g .1)),
       )

@@ -2,6 +2,7 @@
 pub mod CallLaws
 pub mod FinishLaws
 pub mod HeldLaws
+pub mod JoinLaws
 pub mod JudgeLaws
 pub mod StepLaws
 pub mod WalkLaws

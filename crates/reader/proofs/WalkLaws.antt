@@ -1,44 +1,108 @@
 -- The reading of a line as the code goes through it: the frames behind it are laid in a room. Assumes nothing.
 use Prim.Native.Nat.{ℕ, _+_, _-_, _≤_, _<_}
 use mathlib.Core.Path.{_≡_, refl, sym, ap, _∙_, subst}
+use mathlib.Core.Bool.{Bool, true, false}
 use mathlib.Core.List.{List, [], _∷_, _++_, append-assoc, append-nil}
 use native.Mathlib.Omega.{arith}
-use lib.ListN.{length, take, drop, length-drop}
-use lib.Seq.{length-take-le, drop-drop}
+use lib.ListN.{length, take, drop, replicate, length-drop}
+use lib.Seq.{length-take-le, drop-drop, take-add}
 use Rattle.room.specs.Room.{lay, copied}
 use Rattle.room.proofs.RoomLaws.{length-lay, lay-copied}
-use Rattle.framing.specs.declared.Reason.{Reason}
+use Rattle.framing.specs.declared.Reason.the-variants.{StartByte}
+use Rattle.framing.specs.declared.Found.{Found}
 use Rattle.framing.specs.declared.Found.the-variants.{Frame, Start, Neither}
 use Rattle.framing.specs.Format.{Format}
 use Rattle.framing.specs.Frame.{front}
+use Rattle.framing.specs.Idle.{idle}
 use Rattle.framing.specs.Reading.{ongoing, Event, framed, skipped, read, joined, total, oneFrame, framedBytes, skippedBytes}
 use Rattle.framing.proofs.ReadingLaws.{total-append, joined-append, length-joined}
-use Rattle.reader.specs.Private.{countsOf}
+use Rattle.framing.proofs.IdleLaws.{idle-most, idle-reads, joined-skips, framed-skips, frames-skips, skipped-skips}
+use Rattle.reader.specs.declared.walk.Run.{Run}
+use Rattle.reader.specs.Private.{countsOf, Begins, Stops, Leads}
 use Rattle.reader.proofs.StepLaws.{Step, frame-inside, frame-step, skip-step, start-stops}
+
+-- ---- the events that a reading begins with
+
+pub begins-none : (f : Format) (xs : List ℕ) → Begins f xs 0 []
+begins-none f xs = record { inside = omega arith; width = refl; few = omega arith; reads = refl }
+
+begins-step : (f : Format) (xs : List ℕ) (n : ℕ) (e : Event) → Step ongoing f xs n e → Begins f xs n (e ∷ [])
+begins-step f xs n e s = record { inside = s .inside; width = omega (arith, s .width); few = omega (arith, s .few); reads = s .reads }
+
+begins-then : (f : Format) (xs : List ℕ) (n m : ℕ) (es ds : List Event) → Begins f xs n es → Begins f (drop n xs) m ds → Begins f xs (n + m) (es ++ ds)
+begins-then f xs n m es ds b d =
+    record {
+      inside = omega (arith, b .inside, d .inside, length-drop n xs);
+      width = omega (arith, b .width, d .width, total-append framedBytes es ds, total-append skippedBytes es ds);
+      few = omega (arith, b .few, d .few, total-append oneFrame es ds, total-append framedBytes es ds);
+      reads =
+          b .reads
+          ∙ rw (d .reads, drop-drop m n xs)
+          (ap (λ (x : List Event). record { events = x; rest = read ongoing f (drop (n + m) xs) .rest })
+          (sym (append-assoc es ds (read ongoing f (drop (n + m) xs) .events))));
+    }
+
+begins-idle : (f : Format) (xs : List ℕ) → Begins f xs (idle f xs) (replicate (idle f xs) (skipped StartByte))
+begins-idle f xs =
+    let k = idle f xs in
+    record {
+      inside = idle-most f xs;
+      width = omega (arith, framed-skips k StartByte, skipped-skips k StartByte);
+      few = omega (arith, framed-skips k StartByte, frames-skips k StartByte);
+      reads = idle-reads f xs;
+    }
+
+-- ---- frames one behind the other
+
+-- The code stands at place at, and all before it are frames.
+pub record Frames (f : Format) (xs : List ℕ) (at frames : ℕ) : Type 0 where
+  pub events : List Event
+  pub begins : Begins f xs at events
+  pub laid : joined events ≡ take at xs
+  pub number : frames ≡ total oneFrame events
+
+pub frames-none : (f : Format) (xs : List ℕ) → Frames f xs 0 0
+frames-none f xs = record { events = []; begins = begins-none f xs; laid = refl; number = refl }
+
+module _ (f : Format) (xs : List ℕ) (at frames : ℕ) (w : Frames f xs at frames) where
+  pub frame-ends : (n : ℕ) → front f (drop at xs) ≡ Frame n → (0 < n) × (at + n ≤ length xs)
+  frame-ends n e = let i = frame-inside f (drop at xs) n e in (i .0, omega (arith, i .1, w .begins .inside, length-drop at xs))
+
+  pub frames-few : frames ≤ at
+  frames-few = omega (arith, w .number, w .begins .few, w .begins .width)
+
+  pub frames-more : (n : ℕ) → front f (drop at xs) ≡ Frame n → Frames f xs (at + n) (frames + 1)
+  frames-more n e =
+      let s = begins-step f (drop at xs) n (framed (take n (drop at xs))) (frame-step ongoing f (drop at xs) n e) in
+      let one = framed (take n (drop at xs)) ∷ [] in
+      record {
+        events = w .events ++ one;
+        begins = begins-then f xs at n (w .events) one (w .begins) s;
+        laid = joined-append (w .events) one ∙ rw (w .laid, append-nil (take n (drop at xs))) (sym (take-add at n xs));
+        number = omega (arith, w .number, total-append oneFrame (w .events) one);
+      }
+
+  pub frames-stop : (waits : Bool) → Stops waits (front f (drop at xs)) → Leads f xs (record { bytes = at; frames = frames; waits = waits })
+  frames-stop waits s = record { events = w .events; begins = w .begins; laid = w .laid; number = w .number; stops = s }
+
+-- no frame stands where a run ends
+stop-start : (o : Found) → Stops true o → o ≡ Start
+stop-start (Frame n) s = absurd s
+stop-start Start s = refl
+stop-start (Neither r) s = let z : _≡_ {A = ℕ} 0 1 = cc in absurd (omega arith)
+
+-- ---- a line, its frames laid in a room
 
 -- The code stands at place at of the line, and the events before it are behind: their frames are laid in the room.
 pub record Walk (f : Format) (line room₀ room : List ℕ) (at handed frames : ℕ) : Type 0 where
   pub events : List Event
-  pub inside : at ≤ length line
-  pub reads : read ongoing f line ≡ record { events = events ++ read ongoing f (drop at line) .events; rest = read ongoing f (drop at line) .rest }
+  pub begins : Begins f line at events
   pub laid : room ≡ lay (joined events) room₀
   pub bytes : handed ≡ total framedBytes events
   pub number : frames ≡ total oneFrame events
-  pub passed : at ≡ total framedBytes events + total skippedBytes events
-  pub few : frames ≤ handed
 
 pub walk-start : (f : Format) (line room : List ℕ) → Walk f line room room 0 0 0
-walk-start f line room =
-    record {
-      events = [];
-      inside = omega arith;
-      reads = refl;
-      laid = refl;
-      bytes = refl;
-      number = refl;
-      passed = refl;
-      few = omega arith;
-    }
+walk-start f line room = record { events = []; begins = begins-none f line; laid = refl; bytes = refl; number = refl }
 
 module _ (f : Format) (line room₀ room : List ℕ) (at handed frames : ℕ) (w : Walk f line room₀ room at handed frames) where
   -- what is laid is as many bytes as are framed
@@ -46,66 +110,66 @@ module _ (f : Format) (line room₀ room : List ℕ) (at handed frames : ℕ) (w
   laid-length = length-joined (w .events) ∙ sym (w .bytes)
 
   pub handed-most : handed ≤ at
-  handed-most = omega (arith, w .passed, w .bytes)
+  handed-most = omega (arith, w .begins .width, w .bytes)
+
+  pub walk-few : frames ≤ at
+  walk-few = omega (arith, w .number, w .begins .few, w .begins .width)
 
   pub room-length : length line ≤ length room₀ → length room ≡ length room₀
-  room-length h = ap length (w .laid) ∙ length-lay (joined (w .events)) room₀ (omega (arith, laid-length, handed-most, w .inside))
+  room-length h = ap length (w .laid) ∙ length-lay (joined (w .events)) room₀ (omega (arith, laid-length, handed-most, w .begins .inside))
 
-  -- one event further
-  walk-on : (n : ℕ) (e : Event) (room′ : List ℕ) → Step ongoing f (drop at line) n e → room′ ≡ lay (joined (w .events) ++ joined (e ∷ [])) room₀
-      → Walk f line room₀ room′ (at + n) (handed + framedBytes e) (frames + oneFrame e)
-  walk-on n e room′ s l =
+  -- more events behind
+  walk-on : (n b k : ℕ) (es : List Event) (room′ : List ℕ) → Begins f (drop at line) n es → total framedBytes es ≡ b → total oneFrame es ≡ k
+      → room′ ≡ lay (joined (w .events) ++ joined es) room₀ → Walk f line room₀ room′ (at + n) (handed + b) (frames + k)
+  walk-on n b k es room′ s p q l =
       record {
-        events = w .events ++ e ∷ [];
-        inside = omega (arith, w .inside, s .inside, length-drop at line);
-        reads =
-            w .reads
-            ∙ rw (s .reads, drop-drop n at line)
-            (ap (λ (es : List Event). record { events = es; rest = read ongoing f (drop (at + n) line) .rest })
-            (sym (append-assoc (w .events) (e ∷ []) (read ongoing f (drop (at + n) line) .events))));
-        laid = rw (joined-append (w .events) (e ∷ [])) l;
-        bytes = rw (total-append framedBytes (w .events) (e ∷ []), w .bytes) (omega arith);
-        number = rw (total-append oneFrame (w .events) (e ∷ []), w .number) (omega arith);
-        passed =
-            omega (
-              arith,
-              w .passed,
-              s .width,
-              total-append framedBytes (w .events) (e ∷ []),
-              total-append skippedBytes (w .events) (e ∷ []),
-            );
-        few = omega (arith, w .few, s .few);
+        events = w .events ++ es;
+        begins = begins-then f line at n (w .events) es (w .begins) s;
+        laid = rw (joined-append (w .events) es) l;
+        bytes = omega (arith, w .bytes, p, total-append framedBytes (w .events) es);
+        number = omega (arith, w .number, q, total-append oneFrame (w .events) es);
       }
 
-  pub walk-skip : (r : Reason) → front f (drop at line) ≡ Neither r → Walk f line room₀ room (at + 1) handed frames
-  walk-skip r e =
-      let s = skip-step ongoing f (drop at line) r e in
-      subst (λ (k : ℕ). Walk f line room₀ room (at + 1) handed k) (omega arith)
-      (subst (λ (k : ℕ). Walk f line room₀ room (at + 1) k (frames + 0)) (omega arith)
-      (walk-on 1 (skipped r) room s (w .laid ∙ ap (λ (bs : List ℕ). lay bs room₀) (sym (append-nil (joined (w .events)))))))
+  -- bytes that are skipped
+  walk-skips : (n : ℕ) (es : List Event) → Begins f (drop at line) n es → joined es ≡ [] → Walk f line room₀ room (at + n) handed frames
+  walk-skips n es s none =
+      let b : total framedBytes es ≡ 0 = sym (length-joined es) ∙ ap length none in
+      let k : total oneFrame es ≡ 0 = omega (arith, s .few, b) in
+      subst (λ (i : ℕ). Walk f line room₀ room (at + n) handed i) (omega arith)
+      (subst (λ (i : ℕ). Walk f line room₀ room (at + n) i (frames + 0)) (omega arith)
+      (walk-on n 0 0 es room s b k (w .laid ∙ rw (none, append-nil (joined (w .events))))))
 
-  -- a frame ends in the line
-  pub frame-ends : (n : ℕ) → front f (drop at line) ≡ Frame n → (0 < n) × (at + n ≤ length line)
-  frame-ends n e = let i = frame-inside f (drop at line) n e in (i .0, omega (arith, i .1, w .inside, length-drop at line))
+  -- a run is copied
+  pub run-ends : (r : Run) → Leads f (drop at line) r → at + r .bytes ≤ length line
+  run-ends r l = omega (arith, l .begins .inside, w .begins .inside, length-drop at line)
 
-  pub walk-frame : (n : ℕ) (src room′ : List ℕ) → length line ≤ length room₀ → front f (drop at line) ≡ Frame n → src ≡ take n (drop at line)
-      → room′ ≡ copied src room handed → Walk f line room₀ room′ (at + n) (handed + n) (frames + 1)
-  walk-frame n src room′ fit e part put =
-      let s = frame-step ongoing f (drop at line) n e in
-      let frame = take n (drop at line) in
-      let l : length frame ≡ n = length-take-le n (drop at line) (s .inside) in
-      let h : handed + length frame ≤ length room₀ = omega (arith, handed-most, frame-ends n e .1) in
-      subst (λ (k : ℕ). Walk f line room₀ room′ (at + n) (handed + k) (frames + 1)) l
-      (walk-on n (framed frame) room′ s
-      (put
-      ∙ rw (w .laid, part, lay-copied (joined (w .events)) frame room₀ handed laid-length h)
-      (ap (λ (bs : List ℕ). lay (joined (w .events) ++ bs) room₀) (sym (append-nil frame)))))
+  pub walk-run : (r : Run) (src room′ : List ℕ) → length line ≤ length room₀ → Leads f (drop at line) r → src ≡ take (r .bytes) (drop at line)
+      → room′ ≡ copied src room handed → Walk f line room₀ room′ (at + r .bytes) (handed + r .bytes) (frames + r .frames)
+  walk-run r src room′ fit l part put =
+      let b : length (joined (l .events)) ≡ r .bytes = ap length (l .laid) ∙ length-take-le (r .bytes) (drop at line) (l .begins .inside) in
+      let h : handed + length (joined (l .events)) ≤ length room₀ = omega (arith, handed-most, run-ends r l, b) in
+      walk-on (r .bytes) (r .bytes) (r .frames) (l .events) room′ (l .begins) (sym (length-joined (l .events)) ∙ b) (sym (l .number))
+      (put ∙ rw (w .laid, part, ← l .laid) (lay-copied (joined (w .events)) (joined (l .events)) room₀ handed laid-length h))
+
+  -- where it does not wait, a byte is skipped
+  pub walk-skip : Stops false (front f (drop at line)) → Walk f line room₀ room (at + 1) handed frames
+  walk-skip s = go (front f (drop at line)) refl s
+    where
+      go : (o : Found) → front f (drop at line) ≡ o → Stops false o → Walk f line room₀ room (at + 1) handed frames
+      go (Frame n) e t = absurd t
+      go Start e t = let z : _≡_ {A = ℕ} 0 1 = cc in absurd (omega arith)
+      go (Neither r) e t =
+          walk-skips 1 (skipped r ∷ []) (begins-step f (drop at line) 1 (skipped r) (skip-step ongoing f (drop at line) r e)) refl
+
+  -- and those behind it that begin no shape
+  pub walk-idle : (n : ℕ) → n ≡ idle f (drop at line) → Walk f line room₀ room (at + n) handed frames
+  walk-idle n e = rw e (walk-skips (idle f (drop at line)) _ (begins-idle f (drop at line)) (joined-skips (idle f (drop at line)) StartByte))
 
   -- At a start the reading stops.
-  pub walk-end : front f (drop at line) ≡ Start
+  pub walk-end : Stops true (front f (drop at line))
       → (record { framed = handed; skipped = at - handed; frames = frames } ≡ countsOf (read ongoing f line)) × (room ≡ lay (joined (read ongoing f line .events)) room₀)
-  walk-end e =
+  walk-end s =
       let g : read ongoing f line ≡ record { events = w .events; rest = drop at line } =
-      w .reads ∙ rw (start-stops f (drop at line) e, append-nil (w .events)) in
-      let k : at - handed ≡ total skippedBytes (w .events) = omega (arith, w .passed, w .bytes) in
+      w .begins .reads ∙ rw (start-stops f (drop at line) (stop-start (front f (drop at line)) s), append-nil (w .events)) in
+      let k : at - handed ≡ total skippedBytes (w .events) = omega (arith, w .begins .width, w .bytes) in
       rw (g) (rw (k, w .bytes, w .number), w .laid)

@@ -2,16 +2,16 @@
 use super::Reader;
 use framing::Found;
 ghost use mathlib.Core.Path.{_≡_};
-ghost use Prim.Native.Nat.{_+_};
+ghost use Prim.Native.Nat.{_+_, _≤_};
 ghost use lib.Dec.{ltb};
 ghost use Rattle.framing.specs.Format.{formatOf, pendingBound};
 ghost use Rattle.framing.specs.Shape.{scan};
-ghost use Rattle.reader.specs.State.{sum};
+ghost use Rattle.reader.specs.State.{sum, pendingBytes};
 ghost use Rattle.reader.specs.Refusal.{isStart, broken, refusal};
 ghost use Rattle.reader.specs.Private.{firstOf};
 
 // How many bytes can be pending.
-fn pending_bound(format: u32) -> u32
+pub(crate) fn pending_bound(format: u32) -> u32
     ensures { λ n. ⌜ n ≡ pendingBound (formatOf format) ⌝ }
 {
     match format {
@@ -31,6 +31,19 @@ fn is_start(format: u32, s: &[u8]) -> bool
         Found::Start => true,
         Found::Neither(_) => false,
     }
+}
+
+// Whether what is pending is nothing or a proper start of a shape. The held bytes are copied only where some are.
+fn holds_start(r: Reader) -> bool
+    requires { ⌜ r .pending ≤ 275 ⌝ }
+    ensures { λ b. ⌜ b ≡ isStart (scan (formatOf (r .format)) (pendingBytes r)) ⌝ }
+{
+    let pending = r.pending as usize;
+    if pending == 0 {
+        return true;
+    }
+    let held = r.held;
+    is_start(r.format, &held[..pending])
 }
 
 // Whether the three numbers and n more are over the most that a reader counts.
@@ -65,9 +78,7 @@ fn is_broken(r: Reader) -> bool
     if pending_bound(format) < r.pending {
         return true;
     }
-    let pending = r.pending as usize;
-    let held = r.held;
-    if !is_start(format, &held[..pending]) {
+    if !holds_start(r) {
         return true;
     }
     let over = is_over(r, 0);
@@ -75,7 +86,7 @@ fn is_broken(r: Reader) -> bool
     if !closed {
         return over;
     }
-    if 0 < pending {
+    if 0 < r.pending {
         return true;
     }
     over

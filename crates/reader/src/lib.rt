@@ -5,11 +5,12 @@ mod walk;
 use walk::Walked;
 ghost use mathlib.Core.Path.{_≡_};
 ghost use mathlib.Core.Bool.{false};
+ghost use mathlib.Core.List.{_++_};
 ghost use Prim.Native.Nat.{_+_, _≤_};
 ghost use lib.ListN.{length};
 ghost use Rattle.framing.specs.Format.{formatOf};
 ghost use Rattle.framing.specs.Reading.{ongoing, read};
-ghost use Rattle.reader.specs.State.{empty, freshOf};
+ghost use Rattle.reader.specs.State.{sum, pendingBytes, empty, freshOf};
 ghost use Rattle.reader.specs.Calls.{aPiece, aClose, returned, taken, refusedOf, serve};
 ghost use Rattle.reader.specs.Private.{renewedOf, Fits};
 
@@ -85,14 +86,10 @@ impl Reader {
         if answer != 0 {
             return refused(answer, self);
         }
-        let pending = self.pending as usize;
-        if pending == 0 {
+        if self.pending == 0 {
             return accept(self, bytes, room);
         }
-        let held = self.held;
-        let mut work = [0u8; Reader::HELD + Reader::LONGEST_PIECE];
-        let n = walk::join(held, pending, bytes, &mut work);
-        accept(self, &work[..n], room)
+        accept_held(self, bytes, room)
     }
 
     // Ends the line: what the closing reading adds is laid in room in the same way. A refusal changes nothing.
@@ -166,4 +163,24 @@ fn accept(r: Reader, line: &[u8], room: &mut [u8]) -> Outcome
     let w = walk::walk(format, line, room);
     let used = w.framed + w.skipped;
     renewed(r, false, w, &line[used..])
+}
+
+// An accepted piece behind pending bytes: as much of it as they can need is joined to them, and the rest is read where it stands.
+fn accept_held(r: Reader, bytes: &[u8], room: &mut [u8]) -> Outcome
+    requires { ⌜ (r .pending ≤ 275) × (r .pending + length (now bytes) ≤ length (now room)) × (sum r + length (now bytes) ≤ 4294967295) ⌝ }
+    ensures { λ o. ⌜ returned o (now (room .exit)) ≡ taken r false (read ongoing (formatOf (r .format)) (pendingBytes r ++ now (bytes .entry))) (now (room .entry)) ⌝ }
+{
+    let format = r.format;
+    let pending = r.pending as usize;
+    let held = r.held;
+    let most = judge::pending_bound(format) as usize;
+    let mut work = [0u8; 2 * Reader::HELD];
+    if bytes.len() <= most {
+        let n = walk::join(held, pending, bytes, &mut work);
+        return accept(r, &work[..n], room);
+    }
+    let n = walk::join(held, pending, &bytes[..most], &mut work);
+    let w = walk::resume(format, &work[..n], pending, bytes, room);
+    let end = w.framed + w.skipped - pending;
+    renewed(r, false, w, &bytes[end..])
 }

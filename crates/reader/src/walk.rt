@@ -10,7 +10,7 @@ ghost use Rattle.framing.specs.Format.{formatOf};
 ghost use Rattle.framing.specs.Frame.{front};
 ghost use Rattle.framing.specs.Reading.{ongoing, closing, read, joined};
 ghost use Rattle.reader.specs.State.{padded};
-ghost use Rattle.reader.specs.Private.{frameLength, countsOf};
+ghost use Rattle.reader.specs.Private.{Leads, Joined, frameLength, countsOf};
 
 // The numbers of a reading: the bytes framed, those skipped, and the frames.
 pub(crate) struct Walked {
@@ -39,7 +39,44 @@ pub(crate) fn keep(rest: &[u8]) -> [u8; Reader::HELD]
     held
 }
 
-// Lays the frames of the reading of line in room.
+// Frames that stand one behind the other: their bytes, how many they are, and whether what follows them waits for more.
+struct Run {
+    bytes: usize,
+    frames: usize,
+    waits: bool,
+}
+
+// The frames that s begins with, up to a byte that begins none.
+fn leading(format: u32, s: &[u8]) -> Run
+    ensures { λ r. ⌜ Leads (formatOf format) (now (s .entry)) r ⌝ }
+{
+    let mut at = 0;
+    let mut frames = 0;
+    loop {
+        match framing::front(format, &s[at..]) {
+            Found::Frame(n) => {
+                at += n;
+                frames += 1;
+            }
+            Found::Start => {
+                return Run {
+                    bytes: at,
+                    frames: frames,
+                    waits: true,
+                };
+            }
+            Found::Neither(_) => {
+                return Run {
+                    bytes: at,
+                    frames: frames,
+                    waits: false,
+                };
+            }
+        }
+    }
+}
+
+// Lays the frames of the reading of line in room: each run is copied whole.
 pub(crate) fn walk(format: u32, line: &[u8], room: &mut [u8]) -> Walked
     requires { ⌜ length (now line) ≤ length (now room) ⌝ }
     ensures { λ w. ⌜ (w ≡ countsOf (read ongoing (formatOf format) (now (line .entry))))
@@ -49,25 +86,44 @@ pub(crate) fn walk(format: u32, line: &[u8], room: &mut [u8]) -> Walked
     let mut framed = 0;
     let mut frames = 0;
     loop {
-        match framing::front(format, &line[at..]) {
-            Found::Frame(n) => {
-                let e = at + n;
-                room::copy(&line[at..e], room, framed);
-                framed += n;
-                frames += 1;
-                at = e;
-            }
-            Found::Start => {
-                return Walked {
-                    framed: framed,
-                    skipped: at - framed,
-                    frames: frames,
-                };
-            }
-            Found::Neither(_) => {
-                at += 1;
-            }
+        let run = leading(format, &line[at..]);
+        let e = at + run.bytes;
+        room::copy(&line[at..e], room, framed);
+        framed += run.bytes;
+        frames += run.frames;
+        if run.waits {
+            return Walked {
+                framed: framed,
+                skipped: e - framed,
+                frames: frames,
+            };
         }
+        at = e + 1;
+        at += framing::idle(format, &line[at..]);
+    }
+}
+
+// Lays the frames of the reading of the pending bytes and then those of a longer piece in room. As much of the piece as they can need
+// is joined to the pending bytes in line; behind that the piece is read where it stands.
+pub(crate) fn resume(
+    format: u32,
+    line: &[u8],
+    pending: usize,
+    bytes: &[u8],
+    room: &mut [u8],
+) -> Walked
+    requires { ⌜ Joined (formatOf format) (now line) pending (now bytes) (now room) ⌝ }
+    ensures { λ w. ⌜ (w ≡ countsOf (read ongoing (formatOf format) (take pending (now (line .entry)) ++ now (bytes .entry))))
+        × (now (room .exit) ≡ lay (joined (read ongoing (formatOf format) (take pending (now (line .entry)) ++ now (bytes .entry)) .events)) (now (room .entry))) ⌝ }
+{
+    let first = walk(format, line, room);
+    let laid = first.framed;
+    let used = laid + first.skipped - pending;
+    let second = walk(format, &bytes[used..], &mut room[laid..]);
+    Walked {
+        framed: laid + second.framed,
+        skipped: first.skipped + second.skipped,
+        frames: first.frames + second.frames,
     }
 }
 

@@ -22,6 +22,7 @@ fn write_verdict(same: bool) {
 
 fn crc(text: &[u8], published: u32) {
     let computed = checksum::crc32(text);
+    let sliced = slicing::crc32(text);
     write(b"crc32 '");
     write(text);
     write(b"' published ");
@@ -29,6 +30,9 @@ fn crc(text: &[u8], published: u32) {
     write(b", computed ");
     write_word(computed);
     write_verdict(published == computed);
+    write(b", by slicing ");
+    write_word(sliced);
+    write_verdict(published == sliced);
     write(b"\n");
 }
 

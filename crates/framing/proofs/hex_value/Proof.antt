@@ -1,5 +1,5 @@
-use borrow.Author.Needs.{needs}
 use native.Mathlib.Omega.{arith}
+use mathlib.Core.Logic.{⊎-elim}
 use borrow.Author.Tests.{le-leb, lt-leb}
 use Rattle.framing.specs.Frame.{hexValue}
 use Rattle.framing.proofs.hex_value.Statement.{statement}
@@ -10,7 +10,9 @@ unfolding hexValue
 hex-value-spec =
     tie.close
     (tie.spec
-    (λ c. rw (le-leb (c .before .args .b) 57 (omega arith)) (omega arith))
-    (λ c. rw (le-leb _ 57 (c .if2 .taken)))
-    (λ c. search needs)
-    (λ c. rw (lt-leb _ 57 (c .if2 .left))))
+    (λ c.
+    let b = c .before .before .args .b in
+    ⊎-elim (λ w. rw (le-leb b 57 (w .0 .taken)) (omega arith)) (λ w. rw (lt-leb b 57 (w .0 .left)) (omega arith)) (c .before .if1 .came))
+    (λ c.
+    let b = c .before .before .before .args .b in
+    ⊎-elim (λ w. rw (le-leb b 57 (w .0 .taken)) (omega arith)) (λ w. rw (lt-leb b 57 (w .0 .left)) (omega arith)) (c .before .before .if1 .came)))

@@ -18,10 +18,10 @@ decode-spec =
     (λ c κs. search needs)
     (λ c. λ i.
     record {
-      format = c .before .before .before .before .before .u32-at .ensures i;
-      closed = not (eqb (c .before .before .before .before .u32-at2 .ensures i) 0);
-      framed = c .before .before .before .u32-at3 .ensures i;
-      skipped = c .before .before .u32-at4 .ensures i;
-      pending = c .before .u32-at5 .ensures i;
+      format = c .before .before .before .before .before .word .ensures i;
+      closed = not (eqb (c .before .before .before .before .word2 .ensures i) 0);
+      framed = c .before .before .before .word3 .ensures i;
+      skipped = c .before .before .word4 .ensures i;
+      pending = c .before .word5 .ensures i;
       held = c .held-of .ensures i;
     }))

@@ -1,0 +1,139 @@
+-- Laws of the bytes that begin no shape: how many they are, how code counts them, and what the reading makes of them.
+-- Assumes nothing.
+use Prim.Native.Nat.{ℕ, zero, suc, _+_, _*_, _≤_, _<_}
+use mathlib.Core.Path.{_≡_, refl, ap, _∙_}
+use mathlib.Core.Bool.{Bool, true, false, cond}
+use mathlib.Core.List.{List, [], _∷_, _++_}
+use native.Mathlib.Omega.{arith}
+use native.Mathlib.Nat.{suc-mul}
+use native.Mathlib.Numerals.{add-one}
+use lib.Dec.{eqb}
+use lib.ListN.{length, getD, drop, replicate, drop-of-length-le}
+use lib.Seq.{drop-cons}
+use borrow.Author.Tests.{eq-eqb, ne-eqb}
+use Rattle.framing.specs.declared.Reason.{Reason}
+use Rattle.framing.specs.declared.Reason.the-variants.{StartByte}
+use Rattle.framing.specs.declared.Found.the-variants.{Neither}
+use Rattle.framing.specs.Format.{Format, mgl, onflight, nmea, unknown}
+use Rattle.framing.specs.Shape.{Next, more, bad, must, mglNext, onflightNext, nmeaNext, next, follow, scanFrom, scan}
+use Rattle.framing.specs.Frame.{front}
+use Rattle.framing.specs.Reading.{ongoing, Event, skipped, Reading, _then_, read, joined, total, oneFrame, framedBytes, skippedBytes}
+use Rattle.framing.specs.Idle.{fits, begins, idle}
+use Rattle.framing.specs.Private.{before}
+use Rattle.framing.proofs.FrameLaws.{front-at}
+use Rattle.framing.proofs.ReadingLaws.{read-at}
+
+-- ---- how many they are
+
+pub idle-most : (f : Format) (xs : List ℕ) → idle f xs ≤ length xs
+unfolding idle
+idle-most f [] = omega arith
+idle-most f (x ∷ xs) = pick (begins f x) (idle-most f xs)
+  where
+    pick : (t : Bool) → idle f xs ≤ length xs → cond t 0 (suc (idle f xs)) ≤ suc (length xs)
+    pick true h = omega arith
+    pick false h = omega arith
+
+-- ---- the one byte that begins a shape
+
+-- every shape of a format starts with a
+abbrev pub Opens : Format → ℕ → Type 0
+Opens f a = (x : ℕ) → next f 0 0 x ≡ must (eqb x a) (more 0) StartByte
+
+pub mgl-opens : Opens mgl 0x05
+unfolding next mglNext
+mgl-opens x = refl
+
+pub onflight-opens : Opens onflight 0x42
+unfolding next onflightNext
+onflight-opens x = refl
+
+pub nmea-opens : Opens nmea 0x24
+unfolding next nmeaNext
+nmea-opens x = refl
+
+module _ (f : Format) (a : ℕ) (o : Opens f a) where
+  pub idle-before : (xs : List ℕ) → idle f xs ≡ before a xs
+  unfolding idle begins before
+  idle-before [] = refl
+  idle-before (x ∷ xs) = rw (o x, idle-before xs) (pick (eqb x a))
+    where
+      pick : (t : Bool) → cond (fits (must t (more 0) StartByte)) 0 (suc (before a xs)) ≡ cond t 0 (suc (before a xs))
+      pick true = refl
+      pick false = refl
+
+  other : (x : ℕ) → begins f x ≡ false → next f 0 0 x ≡ bad StartByte
+  unfolding begins
+  other x e = o x ∙ pick (eqb x a) (rw (o x) at e)
+    where
+      pick : (t : Bool) → fits (must t (more 0) StartByte) ≡ false → must t (more 0) StartByte ≡ bad StartByte
+      pick true e = cc
+      pick false e = refl
+
+pub idle-all : (xs : List ℕ) → idle unknown xs ≡ length xs
+unfolding idle begins next
+idle-all [] = refl
+idle-all (x ∷ xs) = ap suc (idle-all xs)
+
+-- ---- how code counts them, from place k on
+
+module _ (a : ℕ) (s : List ℕ) (k : ℕ) (h : k < length s) where
+  pub before-here : getD s k 0 ≡ a → k + before a (drop k s) ≡ k
+  unfolding before
+  before-here e = rw (drop-cons s k 0 h, eq-eqb (getD s k 0) a e) (omega arith)
+
+  pub before-more : (getD s k 0 ≡ a → ⊥) → k + before a (drop k s) ≡ k + 1 + before a (drop (k + 1) s)
+  unfolding before
+  before-more e = rw (drop-cons s k 0 h, ne-eqb (getD s k 0) a e, add-one k) (omega arith)
+
+pub before-end : (a : ℕ) (s : List ℕ) (k : ℕ) → length s ≤ k → k + before a (drop k s) ≡ k
+unfolding before
+before-end a s k h = rw (drop-of-length-le s h) (omega arith)
+
+-- ---- the reading skips them
+
+not-first : (f : Format) (x : ℕ) → begins f x ≡ false → next f 0 0 x ≡ bad StartByte
+unfolding next
+not-first mgl x e = other mgl 0x05 mgl-opens x e
+not-first onflight x e = other onflight 0x42 onflight-opens x e
+not-first nmea x e = other nmea 0x24 nmea-opens x e
+not-first unknown x e = refl
+
+front-idle : (f : Format) (x : ℕ) (xs : List ℕ) → begins f x ≡ false → front f (x ∷ xs) ≡ Neither StartByte
+unfolding scan scanFrom
+front-idle f x xs e = front-at f (x ∷ xs) (ap (λ (n : Next). follow 0 n (λ m. scanFrom f 1 m xs)) (not-first f x e))
+
+-- The reading skips each of them for its first byte, and then reads what is left.
+pub idle-reads : (f : Format) (xs : List ℕ)
+    → read ongoing f xs
+    ≡ record { events = replicate (idle f xs) (skipped StartByte) ++ read ongoing f (drop (idle f xs) xs) .events; rest = read ongoing f (drop (idle f xs) xs) .rest }
+unfolding idle
+idle-reads f [] = refl
+idle-reads f (x ∷ xs) = pick (begins f x) refl (idle-reads f xs)
+  where
+    skips : ℕ → List ℕ → Reading
+    skips k ys = record { events = replicate k (skipped StartByte) ++ read ongoing f (drop k ys) .events; rest = read ongoing f (drop k ys) .rest }
+
+    pick : (t : Bool) → begins f x ≡ t → read ongoing f xs ≡ skips (idle f xs) xs
+        → read ongoing f (x ∷ xs) ≡ skips (cond t 0 (suc (idle f xs))) (x ∷ xs)
+    pick true e ih = refl
+    pick false e ih = read-at ongoing f x xs (front-idle f x xs e) ∙ ap (_then_ (skipped StartByte)) ih
+
+-- ---- the numbers of so many skips
+
+pub joined-skips : (k : ℕ) (r : Reason) → joined (replicate k (skipped r)) ≡ []
+joined-skips zero r = refl
+joined-skips (suc k) r = joined-skips k r
+
+total-skips : (w : Event → ℕ) (k : ℕ) (r : Reason) → total w (replicate k (skipped r)) ≡ k * w (skipped r)
+total-skips w zero r = omega arith
+total-skips w (suc k) r = let h = total-skips w k r in omega (arith, suc-mul k (w (skipped r)))
+
+pub framed-skips : (k : ℕ) (r : Reason) → total framedBytes (replicate k (skipped r)) ≡ 0
+framed-skips k r = omega (arith, total-skips framedBytes k r)
+
+pub frames-skips : (k : ℕ) (r : Reason) → total oneFrame (replicate k (skipped r)) ≡ 0
+frames-skips k r = omega (arith, total-skips oneFrame k r)
+
+pub skipped-skips : (k : ℕ) (r : Reason) → total skippedBytes (replicate k (skipped r)) ≡ k
+skipped-skips k r = omega (arith, total-skips skippedBytes k r)

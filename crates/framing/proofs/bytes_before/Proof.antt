@@ -1,0 +1,34 @@
+use borrow.Author.Needs.{needs}
+use native.Mathlib.Omega.{arith}
+use mathlib.Core.Path.{_≡_, _∙_, sym}
+use Prim.Native.Nat.{_+_, _-_, _≤_}
+use lib.ListN.{length, drop}
+use Rattle.framing.specs.Private.{before}
+use Rattle.framing.proofs.IdleLaws.{before-here, before-more, before-end}
+use Rattle.framing.proofs.bytes_before.Statement.{statement}
+use Rattle.framing.proofs.bytes_before.Tie as tie
+
+-- The k bytes passed, and those before the first in what is left, are the ones to count.
+abbrev Inv-loop : tie.InvT-loop
+Inv-loop s first k₀ k = (k ≤ length s) × (before first s ≡ k + before first (drop k s))
+
+abbrev μ-loop : tie.MeasureT-loop
+μ-loop s first k₀ k = length s - k
+
+pub bytes-before-spec : {M : Type 1} → statement M
+bytes-before-spec =
+    tie.close
+    (tie.spec
+    Inv-loop
+    μ-loop
+    (λ c. search needs)
+    (λ c. search needs)
+    (λ c.
+    let l = c .before .before .before .loop in
+    sym (l .inv .1 ∙ before-here _ _ (l .k) (c .before .before .loop-test .taken) (c .if1 .taken)))
+    (λ c. search needs)
+    (λ c. search needs)
+    (λ c.
+    let l = c .before .before .before .loop in
+    (omega arith, l .inv .1 ∙ before-more _ _ (l .k) (c .before .before .loop-test .taken) (c .if1 .left)))
+    (λ c. sym (c .before .loop .inv .1 ∙ before-end _ _ _ (c .loop-test .left))))

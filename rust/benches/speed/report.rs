@@ -1,0 +1,81 @@
+//! What is printed.
+
+use crate::timing::{FEW_ROUNDS, ROUNDS};
+use std::fs;
+use std::process::Command;
+
+/// The least that the project wants of a ratio, if it wants something.
+pub type Goal = Option<f64>;
+
+/// The machine, and how all is measured.
+pub fn head(size: usize) {
+    let cpuinfo = fs::read_to_string("/proc/cpuinfo").unwrap_or_default();
+    let processor = cpuinfo.lines().find_map(|line| line.strip_prefix("model name")).unwrap_or(": unknown");
+    let rustc = Command::new("rustc").arg("--version").output();
+    let rustc =
+        rustc.map_or("rustc does not run".into(), |output| String::from_utf8_lossy(&output.stdout).into_owned());
+    println!("processor{}; {}", processor.trim_start(), rustc.trim());
+    println!("Speeds are in MB/s, millions of bytes a second; a ratio is the library's speed over the other's.");
+    println!(
+        "Medians of {ROUNDS} rounds in which the tasks take turns, of {FEW_ROUNDS} where one takes over a second;"
+    );
+    println!("of processor time, but of the sheet program and `cat` by the clock on the wall. Buffers are touched");
+    println!("before the first round and never cleared: the room stays in the caches, and so does a line of 1 MB;");
+    println!("a longer one streams through them. A line has {} MB.", size as f64 / 1e6);
+}
+
+pub fn readers_head(prefix: usize) {
+    let prefix = prefix as f64 / 1e6;
+    println!();
+    println!("Readers. In pieces of 1 byte, and of the worst lines, {prefix} MB is read. The reader by hand has");
+    println!("CRC-32 by slicing by 8, and Fletcher's sums reduced at each byte.");
+    print!("{:<17}{:>5}{:>9}{:>9}", "line", "piece", "library", "by hand");
+    println!("{:>9}{:>8}{:>8}", "memcpy", "/hand", "/memcpy");
+}
+
+/// A row: bytes a second of the library, the hand-written reader and copying; and what a worst line repeats.
+pub fn readers_row(line: &str, piece: usize, speeds: &[f64], goal: Goal, unit: &str) {
+    let [library, hand, copying] = [0, 1, 2].map(|i| speeds[i] / 1e6);
+    let (to_hand, to_copying) = (library / hand, library / copying);
+    let numbers = format!("{library:>9.1}{hand:>9.1}{copying:>9.0}{to_hand:>8.2}{to_copying:>8.3}");
+    println!("{}", format!("{line:<17}{piece:>5}{numbers}  {}{unit}", judged(to_hand, goal)).trim_end());
+}
+
+pub fn checksums_head<'a>(name: &str, columns: impl Iterator<Item = &'a str>) {
+    println!();
+    print!("{name:<9}{:>6}", "bytes");
+    for (i, column) in columns.enumerate() {
+        print!("{column:>14}{:>7}", if i == 0 { "" } else { "ratio" });
+    }
+    println!();
+}
+
+/// A row: bytes a second of the library and of others. The goal is about the first of these.
+pub fn checksums_row(name: &str, len: usize, speeds: impl Iterator<Item = f64>, goal: Goal) {
+    let speeds: Vec<f64> = speeds.collect();
+    let ratio = |speed: &f64| speeds[0] / speed;
+    let mut row = format!("{name:<9}{len:>6}{:>14.0}{:>7}", speeds[0] / 1e6, "");
+    for speed in &speeds[1..] {
+        row += &format!("{:>14.0}{:>7.2}", speed / 1e6, ratio(speed));
+    }
+    println!("{}", format!("{row}  {}", judged(ratio(&speeds[1]), goal)).trim_end());
+}
+
+/// Seconds of the sheet program and of `cat` on a long file, and the program's peak memory on this and on a short one.
+pub fn sheet(sizes: [usize; 2], times: &[f64], peaks: [i64; 2]) {
+    let [long, short] = sizes.map(|size| size as f64 / 1e6);
+    let [sheet, cat] = [times[0], times[1]].map(|time| long / time);
+    println!();
+    println!("The sheet program on clean bench files of all formats, in the page cache; `cat` writes to /dev/null.");
+    println!("{:>7}{:>9}{:>9}{:>8}  peak memory of the sheet program, at most", "MB", "sheet", "cat", "/cat");
+    println!("{long:>7.0}{sheet:>9.0}{cat:>9.0}{:>8.3}  {} kB", sheet / cat, peaks[0]);
+    println!("{short:>7.0}{:>9}{:>9}{:>8}  {} kB", "", "", "", peaks[1]);
+}
+
+fn judged(ratio: f64, goal: Goal) -> String {
+    match goal {
+        Some(goal) if ratio < goal => format!("goal {goal:.1} MISSED"),
+        Some(goal) => format!("goal {goal:.1}"),
+        None => String::new(),
+    }
+}
