@@ -4,7 +4,7 @@ ghost use Rattle.framing.specs.Format.{formatOf};
 ghost use Rattle.content.specs.Answer.{refusalNumber};
 ghost use Rattle.content.specs.Body.{isFrame, bodyStart, bodyEnd, placeAnswer, placeOf, bodyOf};
 use calendar::Clock;
-use framing::Found;
+use framing::run;
 
 // Why a reading refuses. (Document 01's refusals 7, 8 and 9.)
 pub enum Refusal {
@@ -61,11 +61,11 @@ pub fn number_of(r: Refusal) -> u32
 pub fn is_frame(format: u32, s: &[u8]) -> bool
     ensures { λ r. ⌜ r ≡ isFrame (formatOf format) (now (s .entry)) ⌝ }
 {
-    match framing::front(format, s) {
-        Found::Frame(n) => n == s.len(),
-        Found::Start => false,
-        Found::Neither(_) => false,
+    let found = run::leading(format, s, 1);
+    if found.frames == 1 {
+        return found.bytes == s.len();
     }
+    false
 }
 
 // How many bytes of a frame stand before its body.

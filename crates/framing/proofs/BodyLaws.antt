@@ -14,18 +14,11 @@ use Rattle.framing.specs.declared.Scanned.the-variants.{Broken}
 use Rattle.framing.specs.Format.{nmea}
 use Rattle.framing.specs.Shape.{permitted, nmeaNext, next, scanFrom, scan}
 use Rattle.framing.specs.Private.{Permitted, Reached}
+use Rattle.framing.proofs.RunLaws.{both}
 use Rattle.framing.proofs.ShapeLaws.{scan-more}
 use Rattle.framing.proofs.HeadLaws.{body-long, body-more}
 
 -- ---- the bytes passed
-
--- two runs, one after the other
-both : (s : List ℕ) (a k e : ℕ) → Permitted a k s → Permitted k e s → Permitted a e s
-both s a k e p q j l g = pick (ltb j k) refl
-  where
-    pick : (t : Bool) → ltb j k ≡ t → permitted (getD s j 0) ≡ true
-    pick true t = p j l (ltb-true j k t)
-    pick false t = q j (ltb-false j k t) g
 
 one : (s : List ℕ) (k : ℕ) → permitted (getD s k 0) ≡ true → Permitted k (k + 1) s
 one s k p j l g = let e : j ≡ k = omega arith in rw e p
@@ -37,26 +30,10 @@ pub reached-back : {s : List ℕ} {k : ℕ} (j : ℕ) → Reached k s → 0 < j 
 reached-back j r h l = let g = r .inside in record { some = h; inside = omega arith; body = λ i a b. r .body i a (omega arith) }
 
 pub reached-on : {s : List ℕ} {k : ℕ} (n : ℕ) → Reached k s → k + n ≤ length s → Permitted k (k + n) s → Reached (k + n) s
-reached-on {s} {k} n r l p = let h = r .some in record { some = omega arith; inside = l; body = both s 1 k (k + n) (r .body) p }
+reached-on {s} {k} n r l p = let h = r .some in record { some = omega arith; inside = l; body = both permitted s 1 k (k + n) (r .body) p }
 
 pub reached-more : {s : List ℕ} {k : ℕ} → Reached k s → k < length s → permitted (getD s k 0) ≡ true → Reached (k + 1) s
 reached-more {s} {k} r l p = reached-on 1 r (omega arith) (one s k p)
-
--- of the bytes from a on, those before the i-th and before the n-th may stand in a body
-abbrev pub Seen : List ℕ → ℕ → ℕ → ℕ → Type 0
-Seen s a i n = (j : ℕ) → a ≤ j → j < a + i → j < a + n → permitted (getD s j 0) ≡ true
-
--- One byte more: where it is refused, the least is at most its place.
-pub seen-more : (s : List ℕ) (a i n : ℕ) {r : ℕ} → Seen s a i n → r ≡ cond (permitted (getD s (a + i) 0)) 32 i → Seen s a (i + 1) (min n r)
-seen-more s a i n {r} h e j g g′ g″ = pick (ltb j (a + i)) refl
-  where
-    here : (t : Bool) → permitted (getD s (a + i) 0) ≡ t → a + i ≤ j → permitted (getD s j 0) ≡ true
-    here true p q = let z : j ≡ a + i = omega arith in rw z p
-    here false p q = let z : r ≡ i = e ∙ rw p in absurd (omega arith)
-
-    pick : (t : Bool) → ltb j (a + i) ≡ t → permitted (getD s j 0) ≡ true
-    pick true t = h j g (ltb-true j (a + i) t) (omega arith)
-    pick false t = here (permitted (getD s (a + i) 0)) refl (ltb-false j (a + i) t)
 
 -- ---- the scan of them
 

@@ -10,7 +10,7 @@ use native.Mathlib.Numerals.{add-one}
 use lib.Dec.{eqb}
 use lib.ListN.{length, getD, drop, replicate, drop-of-length-le}
 use lib.Seq.{drop-cons}
-use borrow.Author.Tests.{eq-eqb, ne-eqb}
+use borrow.Author.Tests.{eq-eqb, ne-eqb, eqb-false, not-true}
 use Rattle.framing.specs.declared.Reason.{Reason}
 use Rattle.framing.specs.declared.Reason.the-variants.{StartByte}
 use Rattle.framing.specs.declared.Found.the-variants.{Neither}
@@ -19,7 +19,7 @@ use Rattle.framing.specs.Shape.{Next, more, bad, must, mglNext, onflight
 use Rattle.framing.specs.Frame.{front}
 use Rattle.framing.specs.Reading.{ongoing, Event, skipped, Reading, _then_, read, joined, total, oneFrame, framedBytes, skippedBytes}
 use Rattle.framing.specs.Idle.{fits, begins, idle}
-use Rattle.framing.specs.Private.{before}
+use Rattle.framing.specs.Private.{Each, differs, before}
 use Rattle.framing.proofs.FrameLaws.{front-at}
 use Rattle.framing.proofs.ReadingLaws.{read-at}
 
@@ -89,6 +89,14 @@ module _ (a : ℕ) (s : List ℕ) (k : ℕ) (h : k < length s) where
 pub before-end : (a : ℕ) (s : List ℕ) (k : ℕ) → length s ≤ k → k + before a (drop k s) ≡ k
 unfolding before
 before-end a s k h = rw (drop-of-length-le s h) (omega arith)
+
+-- none before place k
+pub before-passed : (a : ℕ) (s : List ℕ) (k : ℕ) → k ≤ length s → Each (differs a) 0 k s → before a s ≡ k + before a (drop k s)
+before-passed a s zero h e = omega arith
+before-passed a s (suc k) h e =
+    let here = eqb-false _ _ (not-true _ (e k (omega arith) (omega arith))) in
+    before-passed a s k (omega arith) (λ j g l. e j g (omega arith))
+    ∙ (rw (add-one k) at (before-more a s k h here))
 
 -- ---- the reading skips them
 

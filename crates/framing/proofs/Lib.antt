@@ -4,9 +4,12 @@ pub mod FormatLaws
 pub mod FrameLaws
 pub mod HeadLaws
 pub mod IdleLaws
+pub mod LeadLaws
 pub mod Length
 pub mod LineLaws
 pub mod ReadingLaws
+pub mod RunLaws
 pub mod ShapeLaws
 pub mod StartLaws
+pub mod SumLaws
 pub mod TestLaws

@@ -2,6 +2,7 @@
 pub mod Format
 pub mod Frame
 pub mod Idle
+pub mod Leading
 pub mod Private
 pub mod Reading
 pub mod Shape

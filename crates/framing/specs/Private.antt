@@ -1,7 +1,7 @@
 -- What private functions promise. Nothing public rests on these definitions.
 use Prim.Native.Nat.{ℕ, zero, suc, _≤_, _<_}
 use mathlib.Core.Path.{_≡_}
-use mathlib.Core.Bool.{Bool, true, false, cond}
+use mathlib.Core.Bool.{Bool, true, false, cond, not}
 use mathlib.Core.List.{List, [], _∷_}
 use lib.Dec.{eqb}
 use lib.ListN.{length, getD}
@@ -26,9 +26,13 @@ endingByte (suc (suc zero)) b = hexDigit b
 endingByte (suc (suc (suc zero))) b = eqb b 0x0D
 endingByte (suc (suc (suc (suc m)))) b = eqb b 0x0A
 
--- the bytes of s from place a on and before place e may stand in the body of a sentence
+-- the bytes of s from place a on and before place e pass a test
+abbrev pub Each : (ℕ → Bool) → ℕ → ℕ → List ℕ → Type 0
+Each p a e s = (j : ℕ) → a ≤ j → j < e → p (getD s j 0) ≡ true
+
+-- they may stand in the body of a sentence
 abbrev pub Permitted : ℕ → ℕ → List ℕ → Type 0
-Permitted a e s = (j : ℕ) → a ≤ j → j < e → permitted (getD s j 0) ≡ true
+Permitted = Each permitted
 
 -- a body that starts at place 1 reaches place k
 pub record Reached (k : ℕ) (s : List ℕ) : Type 0 where
@@ -39,6 +43,10 @@ pub record Reached (k : ℕ) (s : List ℕ) : Type 0 where
 -- byte k, where there is one and it is at place 77 or before, may not stand in a body
 abbrev pub Stops : ℕ → List ℕ → Type 0
 Stops k s = k ≤ 77 → k < length s → permitted (getD s k 0) ≡ false
+
+-- b is not a
+abbrev pub differs : ℕ → ℕ → Bool
+differs a b = not (eqb b a)
 
 -- how many bytes stand before the first a
 unfoldable pub before : ℕ → List ℕ → ℕ

@@ -1,13 +1,15 @@
 // What a byte string begins with: a frame, a proper start of one, or neither.
+mod masked;
+pub mod run;
+mod search;
 pub mod shape;
 
 ghost use mathlib.Core.Path.{_≡_};
-ghost use Prim.Native.Nat.{_≤_};
-ghost use lib.ListN.{length};
-ghost use Rattle.framing.specs.Format.{mgl, onflight, nmea, formatOf, known, shortest};
+ghost use Prim.Native.Nat.{suc, _≤_, _<_};
+ghost use lib.ListN.{length, take};
+ghost use Rattle.framing.specs.Format.{mgl, onflight, nmea, formatOf, known, shortest, pendingBound};
 ghost use Rattle.framing.specs.Frame.{hexValue, good, front};
 ghost use Rattle.framing.specs.Idle.{idle};
-ghost use Rattle.framing.specs.Private.{before};
 
 // Why the bytes from a position on are no frame, by the earliest byte at which they stop being the start of a shape.
 pub enum Reason {
@@ -110,13 +112,34 @@ fn is_good(format: u32, s: &[u8]) -> bool
     }
 }
 
+// Whether the checksum of the sentence of n bytes is right that stands at the start of a longer line.
+fn good_sentence(s: &[u8], n: usize) -> bool
+    requires { ⌜ (shortest nmea ≤ n) × (n ≤ suc (pendingBound nmea)) × (n ≤ length (now s)) × (80 < length (now s)) ⌝ }
+    ensures { λ r. ⌜ r ≡ good nmea (take n (now (s .entry))) ⌝ }
+{
+    let high = hex_value(s[n - 4]) as u32;
+    let low = hex_value(s[n - 3]) as u32;
+    masked::xor_first(&s[1..], n - 6) as u32 == high * 16 + low
+}
+
+// Whether the checksum of the whole shape of n bytes at the start of s is right.
+fn is_frame(format: u32, s: &[u8], n: usize) -> bool
+    requires { ⌜ (shortest (formatOf format) ≤ n) × (n ≤ suc (pendingBound (formatOf format))) × (n ≤ length (now s)) ⌝ }
+    ensures { λ r. ⌜ r ≡ good (formatOf format) (take n (now (s .entry))) ⌝ }
+{
+    if format == 3 && 80 < s.len() {
+        return good_sentence(s, n);
+    }
+    is_good(format, &s[..n])
+}
+
 // What a slice begins with, for every format number.
 pub fn front(format: u32, s: &[u8]) -> Found
     ensures { λ r. ⌜ r ≡ front (formatOf format) (now (s .entry)) ⌝ }
 {
     match shape::scan(format, s) {
         Scanned::Whole(n) => {
-            if is_good(format, &s[..n]) {
+            if is_frame(format, s, n) {
                 return Found::Frame(n);
             }
             Found::Neither(Reason::Checksum)
@@ -126,28 +149,14 @@ pub fn front(format: u32, s: &[u8]) -> Found
     }
 }
 
-// How many bytes stand before the first that is `first`.
-fn bytes_before(s: &[u8], first: u8) -> usize
-    ensures { λ r. ⌜ r ≡ before first (now (s .entry)) ⌝ }
-{
-    let mut k: usize = 0;
-    while k < s.len() {
-        if s[k] == first {
-            return k;
-        }
-        k += 1;
-    }
-    k
-}
-
 // How many bytes from the start on begin no shape of a format: a reading skips them one by one.
 pub fn idle(format: u32, s: &[u8]) -> usize
     ensures { λ r. ⌜ r ≡ idle (formatOf format) (now (s .entry)) ⌝ }
 {
     match format {
-        1 => bytes_before(s, 0x05),
-        2 => bytes_before(s, 0x42),
-        3 => bytes_before(s, b'$'),
+        1 => search::bytes_before(s, 0x05),
+        2 => search::bytes_before(s, 0x42),
+        3 => search::bytes_before(s, b'$'),
         _ => s.len(),
     }
 }

@@ -149,7 +149,7 @@ fn ending(s: &[u8], from: usize) -> Scanned
     Scanned::Partial
 }
 
-fn min_u8(a: u8, b: u8) -> u8
+pub(crate) fn min_u8(a: u8, b: u8) -> u8
     ensures { λ r. ⌜ r ≡ min a b ⌝ }
 {
     if a < b {
@@ -209,10 +209,11 @@ fn blocks(s: &[u8]) -> usize
     while k < s.len() && k < 77 {
         let from = min_usize(k, last);
         let n = block(s, from) as usize;
-        k = from + n;
         if n < 32 {
-            return k;
+            return from + n;
         }
+        // And not by n, for which the next block would wait.
+        k = from + 32;
     }
     k
 }

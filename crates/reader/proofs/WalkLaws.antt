@@ -1,5 +1,5 @@
 -- The reading of a line as the code goes through it: the frames behind it are laid in a room. Assumes nothing.
-use Prim.Native.Nat.{ℕ, _+_, _-_, _≤_, _<_}
+use Prim.Native.Nat.{ℕ, zero, suc, _+_, _-_, _≤_, _<_}
 use mathlib.Core.Path.{_≡_, refl, sym, ap, _∙_, subst}
 use mathlib.Core.Bool.{Bool, true, false}
 use mathlib.Core.List.{List, [], _∷_, _++_, append-assoc, append-nil}
@@ -14,14 +14,24 @@ use Rattle.framing.specs.declared.Found.the-variants.{Frame, Start, Neither}
 use Rattle.framing.specs.Format.{Format}
 use Rattle.framing.specs.Frame.{front}
 use Rattle.framing.specs.Idle.{idle}
-use Rattle.framing.specs.Reading.{ongoing, Event, framed, skipped, read, joined, total, oneFrame, framedBytes, skippedBytes}
+use Rattle.framing.specs.Reading.{ongoing, Event, framed, skipped, read, extend, joined, total, oneFrame, framedBytes, skippedBytes}
 use Rattle.framing.proofs.ReadingLaws.{total-append, joined-append, length-joined}
 use Rattle.framing.proofs.IdleLaws.{idle-most, idle-reads, joined-skips, framed-skips, frames-skips, skipped-skips}
-use Rattle.reader.specs.declared.walk.Run.{Run}
-use Rattle.reader.specs.Private.{countsOf, Begins, Stops, Leads}
+use Rattle.framing.specs.declared.run.Run.{Run}
+use Rattle.framing.specs.Leading.{ledBy, leadOf}
+use Rattle.framing.proofs.LeadLaws.{oneOf, lead-one}
+use Rattle.reader.specs.Private.{frameLength, countsOf}
+use Rattle.reader.proofs.JudgeLaws.{startOf}
 use Rattle.reader.proofs.StepLaws.{Step, frame-inside, frame-step, skip-step, start-stops}
 
 -- ---- the events that a reading begins with
+
+-- The reading of xs begins with the events es, which take n bytes.
+pub record Begins (f : Format) (xs : List ℕ) (n : ℕ) (es : List Event) : Type 0 where
+  pub inside : n ≤ length xs
+  pub width : total framedBytes es + total skippedBytes es ≡ n
+  pub few : total oneFrame es ≤ total framedBytes es
+  pub reads : read ongoing f xs ≡ extend (record { events = es; rest = drop n xs }) (read ongoing f (drop n xs))
 
 pub begins-none : (f : Format) (xs : List ℕ) → Begins f xs 0 []
 begins-none f xs = record { inside = omega arith; width = refl; few = omega arith; reads = refl }
@@ -54,36 +64,65 @@ begins-idle f xs =
 
 -- ---- frames one behind the other
 
--- The code stands at place at, and all before it are frames.
-pub record Frames (f : Format) (xs : List ℕ) (at frames : ℕ) : Type 0 where
+-- no frame stands there, and whether a start does
+abbrev pub Stops : Bool → Found → Type 0
+Stops waits (Frame n) = ⊥
+Stops waits Start = waits ≡ true
+Stops waits (Neither r) = waits ≡ false
+
+-- Frames alone, at most so many, and then none.
+pub record Leads (f : Format) (xs : List ℕ) (most : ℕ) (r : Run) : Type 0 where
   pub events : List Event
-  pub begins : Begins f xs at events
-  pub laid : joined events ≡ take at xs
-  pub number : frames ≡ total oneFrame events
+  pub begins : Begins f xs (r .bytes) events
+  pub laid : joined events ≡ take (r .bytes) xs
+  pub number : r .frames ≡ total oneFrame events
+  pub stops : r .frames < most → Stops (r .waits) (front f (drop (r .bytes) xs))
 
-pub frames-none : (f : Format) (xs : List ℕ) → Frames f xs 0 0
-frames-none f xs = record { events = []; begins = begins-none f xs; laid = refl; number = refl }
+leads-none : (f : Format) (xs : List ℕ) (most : ℕ) (waits : Bool) → (0 < most → Stops waits (front f xs)) → Leads f xs most (record { bytes = 0; frames = 0; waits = waits })
+leads-none f xs most waits s = record { events = []; begins = begins-none f xs; laid = refl; number = refl; stops = s }
 
-module _ (f : Format) (xs : List ℕ) (at frames : ℕ) (w : Frames f xs at frames) where
-  pub frame-ends : (n : ℕ) → front f (drop at xs) ≡ Frame n → (0 < n) × (at + n ≤ length xs)
-  frame-ends n e = let i = frame-inside f (drop at xs) n e in (i .0, omega (arith, i .1, w .begins .inside, length-drop at xs))
+leads-more : (f : Format) (xs : List ℕ) (most n : ℕ) (r : Run) → front f xs ≡ Frame n → Leads f (drop n xs) most r
+    → Leads f xs (suc most) (record { bytes = n + r .bytes; frames = suc (r .frames); waits = r .waits })
+leads-more f xs most n r e l =
+    let one = framed (take n xs) ∷ [] in
+    record {
+      events = one ++ l .events;
+      begins = begins-then f xs n (r .bytes) one (l .events) (begins-step f xs n (framed (take n xs)) (frame-step ongoing f xs n e)) (l .begins);
+      laid = rw (l .laid) (sym (take-add n (r .bytes) xs));
+      number = omega (arith, l .number);
+      stops = λ h. rw (drop-drop (r .bytes) n xs) at (l .stops (omega arith));
+    }
 
-  pub frames-few : frames ≤ at
-  frames-few = omega (arith, w .number, w .begins .few, w .begins .width)
+pub leads : (f : Format) (most : ℕ) (xs : List ℕ) → Leads f xs most (leadOf f most xs)
+unfolding leadOf
+leads f zero xs = leads-none f xs 0 false (λ h. absurd (omega arith))
+leads f (suc m) xs = go (front f xs) refl (λ n. leads f m (drop n xs))
+  where
+    go : (o : Found) → front f xs ≡ o → ((n : ℕ) → Leads f (drop n xs) m (leadOf f m (drop n xs)))
+        → Leads f xs (suc m) (ledBy o (λ n. leadOf f m (drop n xs)))
+    go (Frame n) e ih = leads-more f xs m n (leadOf f m (drop n xs)) e (ih n)
+    go Start e ih = leads-none f xs (suc m) true (λ h. rw e refl)
+    go (Neither r) e ih = leads-none f xs (suc m) false (λ h. rw e refl)
 
-  pub frames-more : (n : ℕ) → front f (drop at xs) ≡ Frame n → Frames f xs (at + n) (frames + 1)
-  frames-more n e =
-      let s = begins-step f (drop at xs) n (framed (take n (drop at xs))) (frame-step ongoing f (drop at xs) n e) in
-      let one = framed (take n (drop at xs)) ∷ [] in
-      record {
-        events = w .events ++ one;
-        begins = begins-then f xs at n (w .events) one (w .begins) s;
-        laid = joined-append (w .events) one ∙ rw (w .laid, append-nil (take n (drop at xs))) (sym (take-add at n xs));
-        number = omega (arith, w .number, total-append oneFrame (w .events) one);
-      }
+pub run-few : (f : Format) (xs : List ℕ) (most : ℕ) (r : Run) → Leads f xs most r → (r .frames ≤ r .bytes) × (r .bytes ≤ length xs)
+run-few f xs most r l = (omega (arith, l .number, l .begins .few, l .begins .width), l .begins .inside)
 
-  pub frames-stop : (waits : Bool) → Stops waits (front f (drop at xs)) → Leads f xs (record { bytes = at; frames = frames; waits = waits })
-  frames-stop waits s = record { events = w .events; begins = w .begins; laid = w .laid; number = w .number; stops = s }
+-- the first frame alone
+pub one-length : (f : Format) (xs : List ℕ) → leadOf f 1 xs .bytes ≡ frameLength (front f xs)
+one-length f xs = ap (λ (r : Run). r .bytes) (lead-one f xs) ∙ go (front f xs)
+  where
+    go : (o : Found) → oneOf o .bytes ≡ frameLength o
+    go (Frame n) = refl
+    go Start = refl
+    go (Neither r) = refl
+
+pub one-waits : (f : Format) (xs : List ℕ) → leadOf f 1 xs .waits ≡ startOf (front f xs)
+one-waits f xs = ap (λ (r : Run). r .waits) (lead-one f xs) ∙ go (front f xs)
+  where
+    go : (o : Found) → oneOf o .waits ≡ startOf o
+    go (Frame n) = refl
+    go Start = refl
+    go (Neither r) = refl
 
 -- no frame stands where a run ends
 stop-start : (o : Found) → Stops true o → o ≡ Start
@@ -140,14 +179,14 @@ module _ (f : Format) (line room₀ room : List ℕ) (at handed frames : ℕ) (w
       (walk-on n 0 0 es room s b k (w .laid ∙ rw (none, append-nil (joined (w .events))))))
 
   -- a run is copied
-  pub run-ends : (r : Run) → Leads f (drop at line) r → at + r .bytes ≤ length line
-  run-ends r l = omega (arith, l .begins .inside, w .begins .inside, length-drop at line)
+  pub run-ends : (most : ℕ) (r : Run) → Leads f (drop at line) most r → at + r .bytes ≤ length line
+  run-ends most r l = omega (arith, l .begins .inside, w .begins .inside, length-drop at line)
 
-  pub walk-run : (r : Run) (src room′ : List ℕ) → length line ≤ length room₀ → Leads f (drop at line) r → src ≡ take (r .bytes) (drop at line)
+  pub walk-run : (most : ℕ) (r : Run) (src room′ : List ℕ) → length line ≤ length room₀ → Leads f (drop at line) most r → src ≡ take (r .bytes) (drop at line)
       → room′ ≡ copied src room handed → Walk f line room₀ room′ (at + r .bytes) (handed + r .bytes) (frames + r .frames)
-  walk-run r src room′ fit l part put =
+  walk-run most r src room′ fit l part put =
       let b : length (joined (l .events)) ≡ r .bytes = ap length (l .laid) ∙ length-take-le (r .bytes) (drop at line) (l .begins .inside) in
-      let h : handed + length (joined (l .events)) ≤ length room₀ = omega (arith, handed-most, run-ends r l, b) in
+      let h : handed + length (joined (l .events)) ≤ length room₀ = omega (arith, handed-most, run-ends most r l, b) in
       walk-on (r .bytes) (r .bytes) (r .frames) (l .events) room′ (l .begins) (sym (length-joined (l .events)) ∙ b) (sym (l .number))
       (put ∙ rw (w .laid, part, ← l .laid) (lay-copied (joined (w .events)) (joined (l .events)) room₀ handed laid-length h))
 

@@ -1,18 +1,16 @@
 -- What private functions ask and promise. Nothing public rests on these definitions.
 use Prim.Native.Nat.{ℕ, _+_, _-_, _≤_}
 use mathlib.Core.Path.{_≡_}
-use mathlib.Core.Bool.{Bool, true, false, cond}
+use mathlib.Core.Bool.{Bool, cond}
 use mathlib.Core.List.{List}
 use lib.ListN.{length, take, drop}
 use Rattle.framing.specs.declared.Found.{Found}
 use Rattle.framing.specs.declared.Found.the-variants.{Frame, Start, Neither}
 use Rattle.framing.specs.Format.{Format, pendingBound}
-use Rattle.framing.specs.Frame.{front}
-use Rattle.framing.specs.Reading.{ongoing, Event, Reading, read, extend, joined, total, oneFrame, framedBytes, skippedBytes, frameCount, framedCount, skippedCount}
+use Rattle.framing.specs.Reading.{Reading, frameCount, framedCount, skippedCount}
 use Rattle.reader.specs.declared.Reader.{Reader as State}
 use Rattle.reader.specs.declared.Outcome.{Outcome}
 use Rattle.reader.specs.declared.walk.Walked.{Walked}
-use Rattle.reader.specs.declared.walk.Run.{Run}
 use Rattle.reader.specs.State.{padded}
 
 -- the first refusal in the order 11, 2, 1, 3, 4, or 0
@@ -50,27 +48,6 @@ pub record Fits (r : State) (w : Walked) (rest : List ℕ) : Type 0 where
   pub few : w .frames ≤ w .framed
   pub held : length rest ≤ 275
   pub counted : r .framed + w .framed + (r .skipped + w .skipped) ≤ 4294967295
-
--- The reading of xs begins with the events es, which take n bytes.
-pub record Begins (f : Format) (xs : List ℕ) (n : ℕ) (es : List Event) : Type 0 where
-  pub inside : n ≤ length xs
-  pub width : total framedBytes es + total skippedBytes es ≡ n
-  pub few : total oneFrame es ≤ total framedBytes es
-  pub reads : read ongoing f xs ≡ extend (record { events = es; rest = drop n xs }) (read ongoing f (drop n xs))
-
--- no frame stands there, and whether a start does
-abbrev pub Stops : Bool → Found → Type 0
-Stops waits (Frame n) = ⊥
-Stops waits Start = waits ≡ true
-Stops waits (Neither r) = waits ≡ false
-
--- Frames alone, and then none.
-pub record Leads (f : Format) (xs : List ℕ) (r : Run) : Type 0 where
-  pub events : List Event
-  pub begins : Begins f xs (r .bytes) events
-  pub laid : joined events ≡ take (r .bytes) xs
-  pub number : r .frames ≡ total oneFrame events
-  pub stops : Stops (r .waits) (front f (drop (r .bytes) xs))
 
 -- The line is some pending bytes and as much of a piece as they can need, and the room takes all.
 pub record Joined (f : Format) (line : List ℕ) (pending : ℕ) (bytes room : List ℕ) : Type 0 where

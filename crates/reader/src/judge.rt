@@ -1,6 +1,6 @@
 // The refusals of a piece or a close.
 use super::Reader;
-use framing::Found;
+use framing::run;
 ghost use mathlib.Core.Path.{_≡_};
 ghost use Prim.Native.Nat.{_+_, _≤_};
 ghost use lib.Dec.{ltb};
@@ -26,11 +26,8 @@ pub(crate) fn pending_bound(format: u32) -> u32
 fn is_start(format: u32, s: &[u8]) -> bool
     ensures { λ b. ⌜ b ≡ isStart (scan (formatOf format) (now (s .entry))) ⌝ }
 {
-    match framing::front(format, s) {
-        Found::Frame(_) => false,
-        Found::Start => true,
-        Found::Neither(_) => false,
-    }
+    let found = run::leading(format, s, 1);
+    found.waits
 }
 
 // Whether what is pending is nothing or a proper start of a shape. The held bytes are copied only where some are.

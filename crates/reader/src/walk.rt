@@ -1,6 +1,6 @@
 // The two readings of some bytes, which lay their frames in a room.
 use super::Reader;
-use framing::Found;
+use framing::run;
 ghost use mathlib.Core.Path.{_≡_};
 ghost use Prim.Native.Nat.{_+_, _≤_};
 ghost use mathlib.Core.List.{_++_};
@@ -10,7 +10,7 @@ ghost use Rattle.framing.specs.Format.{formatOf};
 ghost use Rattle.framing.specs.Frame.{front};
 ghost use Rattle.framing.specs.Reading.{ongoing, closing, read, joined};
 ghost use Rattle.reader.specs.State.{padded};
-ghost use Rattle.reader.specs.Private.{Leads, Joined, frameLength, countsOf};
+ghost use Rattle.reader.specs.Private.{Joined, frameLength, countsOf};
 
 // The numbers of a reading: the bytes framed, those skipped, and the frames.
 pub(crate) struct Walked {
@@ -39,43 +39,6 @@ pub(crate) fn keep(rest: &[u8]) -> [u8; Reader::HELD]
     held
 }
 
-// Frames that stand one behind the other: their bytes, how many they are, and whether what follows them waits for more.
-struct Run {
-    bytes: usize,
-    frames: usize,
-    waits: bool,
-}
-
-// The frames that s begins with, up to a byte that begins none.
-fn leading(format: u32, s: &[u8]) -> Run
-    ensures { λ r. ⌜ Leads (formatOf format) (now (s .entry)) r ⌝ }
-{
-    let mut at = 0;
-    let mut frames = 0;
-    loop {
-        match framing::front(format, &s[at..]) {
-            Found::Frame(n) => {
-                at += n;
-                frames += 1;
-            }
-            Found::Start => {
-                return Run {
-                    bytes: at,
-                    frames: frames,
-                    waits: true,
-                };
-            }
-            Found::Neither(_) => {
-                return Run {
-                    bytes: at,
-                    frames: frames,
-                    waits: false,
-                };
-            }
-        }
-    }
-}
-
 // Lays the frames of the reading of line in room: each run is copied whole.
 pub(crate) fn walk(format: u32, line: &[u8], room: &mut [u8]) -> Walked
     requires { ⌜ length (now line) ≤ length (now room) ⌝ }
@@ -86,12 +49,12 @@ pub(crate) fn walk(format: u32, line: &[u8], room: &mut [u8]) -> Walked
     let mut framed = 0;
     let mut frames = 0;
     loop {
-        let run = leading(format, &line[at..]);
-        let e = at + run.bytes;
+        let found = run::leading(format, &line[at..], line.len() + 1);
+        let e = at + found.bytes;
         room::copy(&line[at..e], room, framed);
-        framed += run.bytes;
-        frames += run.frames;
-        if run.waits {
+        framed += found.bytes;
+        frames += found.frames;
+        if found.waits {
             return Walked {
                 framed: framed,
                 skipped: e - framed,
@@ -131,11 +94,8 @@ pub(crate) fn resume(
 fn frame_length(format: u32, s: &[u8]) -> usize
     ensures { λ n. ⌜ n ≡ frameLength (front (formatOf format) (now (s .entry))) ⌝ }
 {
-    match framing::front(format, s) {
-        Found::Frame(n) => n,
-        Found::Start => 0,
-        Found::Neither(_) => 0,
-    }
+    let found = run::leading(format, s, 1);
+    found.bytes
 }
 
 // Lays the frames of the closing reading of s in room: where no frame stands the byte is skipped, and the shorter rest is read again.

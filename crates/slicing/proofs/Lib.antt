@@ -1,4 +1,4 @@
 -- Laws that the functions' proofs cite.
+pub mod ArmLaws
 pub mod BlockLaws
 pub mod StepLaws
-pub mod Table

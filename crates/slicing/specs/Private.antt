@@ -6,10 +6,37 @@ use lib.ListN.{length, getD, drop}
 use lib.Bits.{bitXor}
 use Rattle.checksum.specs.Crc.{bitSteps, byteStep}
 use Rattle.slicing.specs.declared.Block.{Block}
+use Rattle.slicing.specs.declared.table.Row.{Row}
 
--- the key of a table's entry is 256 more than its place
+-- the key of a byte's row is 256 more than the byte
 abbrev pub Key : ℕ → Type 0
 Key k = (256 ≤ k) × (k < 512)
+
+-- the row of a byte: numbers of bit steps on it
+abbrev pub rowOf : ℕ → Row
+rowOf b = record {
+  0 = bitSteps 40 b;
+  1 = bitSteps 48 b;
+  2 = bitSteps 56 b;
+  3 = bitSteps 64 b;
+  4 = bitSteps 8 b;
+  5 = bitSteps 16 b;
+  6 = bitSteps 24 b;
+  7 = bitSteps 32 b;
+}
+
+-- the sums of a, each one place down, joined with those of e
+abbrev pub shiftedOf : Row → Row → Row
+shiftedOf a e = record {
+  0 = bitXor (a .1) (e .0);
+  1 = bitXor (a .2) (e .1);
+  2 = bitXor (a .3) (e .2);
+  3 = bitXor (a .4) (e .3);
+  4 = bitXor (a .5) (e .4);
+  5 = bitXor (a .6) (e .5);
+  6 = bitXor (a .7) (e .6);
+  7 = e .7;
+}
 
 -- the four bytes of s from i on as a number, low byte first
 abbrev pub wordAt : List ℕ → ℕ → ℕ

@@ -1,14 +1,15 @@
-// CRC-32 by slicing: eight bytes at a time, by eight tables. `checksum::crc32` is the same by one table.
-mod tables;
+// CRC-32 by slicing: eight bytes at a time, by a table with eight numbers for each byte. `checksum::crc32` goes byte by byte.
+mod table;
 
+use table::Row;
 ghost use mathlib.Core.Path.{_≡_};
 ghost use mathlib.Core.Bool.{cond};
 ghost use Prim.Native.Nat.{_+_, _*_, _%_, _<_, _≤_};
 ghost use lib.Bits.{bitXor};
 ghost use lib.Dec.{eqb};
 ghost use lib.ListN.{length};
-ghost use Rattle.checksum.specs.Crc.{bitSteps, crcOf};
-ghost use Rattle.slicing.specs.Private.{wordAt, First};
+ghost use Rattle.checksum.specs.Crc.{crcOf};
+ghost use Rattle.slicing.specs.Private.{wordAt, rowOf, shiftedOf, after, First};
 
 // Eight bytes as two words, the first joined with the state before them; the next block starts at `next`.
 struct Block {
@@ -39,31 +40,44 @@ fn word_at(s: &[u8], i: usize) -> u32
     word(s[i], s[i + 1], s[i + 2], s[i + 3])
 }
 
-// The low byte of x as the key of a table.
-fn key(x: u32) -> u32
+// The low byte of x as the key of the table.
+fn key(x: u64) -> u32
     ensures { λ r. ⌜ r ≡ 256 + x % 256 ⌝ }
 {
-    256 + x % 256
+    256 + (x % 256) as u32
 }
 
-// 32 bit steps of CRC-32, by a table for each byte.
-fn steps32(x: u32) -> u32
-    ensures { λ r. ⌜ r ≡ bitSteps 32 x ⌝ }
+// The sums a, each one place down, with those of e joined to them.
+fn shifted(a: Row, e: Row) -> Row
+    ensures { λ r. ⌜ r ≡ shiftedOf a e ⌝ }
 {
-    let x1 = x / 256;
-    let x2 = x1 / 256;
-    let x3 = x2 / 256;
-    tables::row3(key(x)) ^ (tables::row2(key(x1)) ^ (tables::row1(key(x2)) ^ tables::row0(key(x3))))
+    Row(
+        a.1 ^ e.0,
+        a.2 ^ e.1,
+        a.3 ^ e.2,
+        a.4 ^ e.3,
+        a.5 ^ e.4,
+        a.6 ^ e.5,
+        a.7 ^ e.6,
+        e.7,
+    )
 }
 
-// 64 bit steps.
-fn steps64(x: u32) -> u32
-    ensures { λ r. ⌜ r ≡ bitSteps 64 x ⌝ }
+// 32 bit steps on near and 64 on far, joined. After eight turns place 0 has of each byte the number that was as many places up as turns
+// followed. The table is asked at one place of the code, so that it is compiled in; the loop is unrolled, and of each row only that number is
+// looked up.
+fn steps(far: u32, near: u32) -> u32
+    ensures { λ r. ⌜ r ≡ after far near ⌝ }
 {
-    let x1 = x / 256;
-    let x2 = x1 / 256;
-    let x3 = x2 / 256;
-    tables::row7(key(x)) ^ (tables::row6(key(x1)) ^ (tables::row5(key(x2)) ^ tables::row4(key(x3))))
+    let mut sums = Row(0, 0, 0, 0, 0, 0, 0, 0);
+    let mut x = far as u64 * 0x1_0000_0000 + near as u64;
+    let mut j: u32 = 0;
+    while j < 8 {
+        sums = shifted(sums, table::look_up(key(x)));
+        x = x / 256;
+        j += 1;
+    }
+    sums.0
 }
 
 fn block_of(far: u32, near: u32, next: usize) -> Block
@@ -127,7 +141,7 @@ pub fn crc32(s: &[u8]) -> u32
     let mut near = first.near;
     let mut i = first.next;
     loop {
-        let c = steps32(near) ^ steps64(far);
+        let c = steps(far, near);
         if s.len() <= i {
             return c ^ 0xFFFF_FFFF;
         }

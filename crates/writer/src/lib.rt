@@ -97,7 +97,7 @@ pub fn write_mgl(header: Header, body: &[u8], room: &mut [u8]) -> Writing
     ];
     room::copy(&head, room, 0);
     room::copy(body, room, 8);
-    let sum = numbers::low_bytes(slicing::crc32(&room[4..end]));
+    let sum = numbers::low_bytes(checksum::crc32(&room[4..end]));
     room::copy(&sum, room, end);
     Writing::Written(end + 4)
 }

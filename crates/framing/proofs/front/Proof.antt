@@ -1,6 +1,5 @@
 use borrow.Author.Needs.{needs}
 use mathlib.Core.Path.{_∙_, sym}
-use lib.Seq.{length-take-le}
 use Rattle.framing.proofs.FrameLaws.{front-at, front-whole}
 use Rattle.framing.proofs.Length.{whole-within}
 use Rattle.framing.proofs.front.Statement.{statement}
@@ -12,19 +11,16 @@ front-spec =
     (tie.spec
     (λ c κs. search needs)
     (λ c. search needs)
-    (λ c.
-    let w = whole-within _ _ _ (sym (c .before .before .before .before .scan .ensures) ∙ c .before .before .n .given .1) in
-    sym (length-take-le _ _ (w .inside)))
     (λ c κs.
-    let w = whole-within _ _ _ (sym (c .before .before .before .before .scan .ensures) ∙ c .before .before .n .given .1) in
-    rw (length-take-le _ _ (w .inside)) (w .least))
+    let w = whole-within _ _ _ (sym (c .before .before .before .scan .ensures) ∙ c .before .n .given .1) in
+    (w .least, w .most, w .inside))
     (λ c.
-    sym (front-whole _ _ (sym (c .before .before .before .before .before .before .scan .ensures)
-    ∙ c .before .before .before .before .n .given .1) (sym (c .before .is-good .ensures) ∙ c .if1 .taken)))
+    sym (front-whole _ _ (sym (c .before .before .before .before .before .scan .ensures)
+    ∙ c .before .before .before .n .given .1) (sym (c .before .is-frame .ensures) ∙ c .if1 .taken)))
     (λ c. search needs)
     (λ c. search needs)
     (λ c.
-    sym (front-whole _ _ (sym (c .before .before .before .before .before .before .scan .ensures)
-    ∙ c .before .before .before .before .n .given .1) (sym (c .before .is-good .ensures) ∙ c .if1 .left)))
+    sym (front-whole _ _ (sym (c .before .before .before .before .before .scan .ensures)
+    ∙ c .before .before .before .n .given .1) (sym (c .before .is-frame .ensures) ∙ c .if1 .left)))
     (λ c. sym (front-at _ _ (sym (c .before .before .scan .ensures) ∙ c .enum-told .given .1)))
     (λ c. sym (front-at _ _ (sym (c .before .before .before .scan .ensures) ∙ c .before .r .given .1))))

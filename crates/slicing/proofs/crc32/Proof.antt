@@ -4,7 +4,6 @@ use native.Mathlib.Omega.{arith}
 use mathlib.Core.Path.{_≡_, refl, sym, ap, _∙_}
 use mathlib.Core.List.{foldl}
 use Prim.Native.Nat.{ℕ, _-_, _%_, _≤_}
-use lib.Bits.{bitXor}
 use lib.ListN.{length, drop}
 use Rattle.checksum.specs.Crc.{byteStep}
 use Rattle.slicing.specs.Private.{after}
@@ -20,9 +19,9 @@ abbrev μ-loop : tie.MeasureT-loop
 μ-loop s far₀ near₀ i₀ far near i = length s - i
 
 -- the state after the block
-stands : (c : tie.After-steps64 Inv-loop μ-loop)
-    → foldl byteStep (bitXor (c .before .steps32 .result) (c .steps64 .result)) (drop (c .before .before .loop .i) (c .before .before .before .before .before .before .args .s .now)) ≡ foldl byteStep 0xFFFFFFFF (c .before .before .before .before .before .before .args .s .now)
-stands c = rw (c .before .steps32 .ensures, c .steps64 .ensures) (c .before .before .loop .inv .2)
+stands : (c : tie.After-steps Inv-loop μ-loop)
+    → foldl byteStep (c .steps .result) (drop (c .before .loop .i) (c .before .before .before .before .before .args .s .now)) ≡ foldl byteStep 0xFFFFFFFF (c .before .before .before .before .before .args .s .now)
+stands c = rw (c .steps .ensures) (c .before .loop .inv .2)
 
 pub crc32-spec : {M : Type 1} → statement M
 crc32-spec =
@@ -34,17 +33,16 @@ crc32-spec =
     (λ c κs. search needs)
     (λ c. (c .first-block .ensures .within, c .first-block .ensures .whole, c .first-block .ensures .same))
     (λ c κs. search needs)
-    (λ c κs. search needs)
     (λ c. all-read _ _ _ (c .if2 .taken) (stands (c .before)))
-    (λ c κs. omega (arith, c .before .before .before .loop .inv .1, c .if2 .left))
-    (λ c. omega (arith, c .before .before .before .before .loop .inv .1, c .before .if2 .left))
-    (λ c κs. omega (arith, c .before .before .before .before .loop .inv .1, c .before .if2 .left))
-    (λ c. omega (arith, c .before .before .before .before .before .loop .inv .1, c .before .before .if2 .left))
-    (λ c. omega (arith, c .before .before .before .before .before .loop .inv .1, c .before .before .if2 .left))
+    (λ c κs. omega (arith, c .before .before .loop .inv .1, c .if2 .left))
+    (λ c. omega (arith, c .before .before .before .loop .inv .1, c .before .if2 .left))
+    (λ c κs. omega (arith, c .before .before .before .loop .inv .1, c .before .if2 .left))
+    (λ c. omega (arith, c .before .before .before .before .loop .inv .1, c .before .before .if2 .left))
+    (λ c. omega (arith, c .before .before .before .before .loop .inv .1, c .before .before .if2 .left))
     (λ c. (
-      omega (arith, c .before .before .before .before .before .loop .inv .1, c .before .before .if2 .left),
-      omega (arith, c .before .before .before .before .before .loop .inv .1, c .before .before .if2 .left),
+      omega (arith, c .before .before .before .before .loop .inv .1, c .before .before .if2 .left),
+      omega (arith, c .before .before .before .before .loop .inv .1, c .before .before .if2 .left),
       rw (c .word-at2 .ensures, c .before .word-at .ensures)
-          (eight-more _ (c .before .before .before .before .before .before .before .before .before .args .s .now) (c .before .before .before .before .before .loop .i) (omega (arith, c .before .before .before .before .before .loop .inv .1, c .before .before .if2 .left)) (λ k. c .before .before .before .before .before .before .before .before .shared-slice-known .given k .fits)
+          (eight-more _ (c .before .before .before .before .before .before .before .before .args .s .now) (c .before .before .before .before .loop .i) (omega (arith, c .before .before .before .before .loop .inv .1, c .before .before .if2 .left)) (λ k. c .before .before .before .before .before .before .before .shared-slice-known .given k .fits)
           ∙ stands (c .before .before .before)),
     )))

@@ -1,13 +1,14 @@
 use borrow.Author.Needs.{needs}
 use native.Mathlib.Omega.{arith}
 use Prim.Native.Nat.{_-_, _≤_}
-use Rattle.framing.proofs.BodyLaws.{Seen, seen-more}
+use Rattle.framing.specs.Shape.{permitted}
+use Rattle.framing.proofs.RunLaws.{Seen, seen-more}
 use Rattle.framing.proofs.shape.block.Statement.{statement}
 use Rattle.framing.proofs.shape.block.Tie as tie
 
 -- No byte among the i that were looked at and before the n-th is refused.
 abbrev Inv-loop : tie.InvT-loop
-Inv-loop s from n₀ i₀ n i = (i ≤ 32) × (n ≤ 32) × Seen s from i n
+Inv-loop s from n₀ i₀ n i = (i ≤ 32) × (n ≤ 32) × Seen permitted s from i n
 
 abbrev μ-loop : tie.MeasureT-loop
 μ-loop s from n₀ i₀ n i = 32 - i
@@ -29,7 +30,7 @@ block-spec =
     (λ c.
     let l = c .before .before .before .before .loop in
     let a = c .before .before .before .before .before .before .args in
-    let h = seen-more (a .s .now) (a .from) (l .i) (l .n) (l .inv .2) (c .before .refused-at .ensures) in
+    let h = seen-more permitted (a .s .now) (a .from) (l .i) (l .n) 32 (l .inv .2) (c .before .refused-at .ensures) in
     (omega arith, omega arith, λ j g g′ g″. h j g g′ (omega arith)))
     (λ c.
     let l = c .before .loop in

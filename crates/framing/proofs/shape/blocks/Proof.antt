@@ -1,5 +1,6 @@
 use borrow.Author.Needs.{needs}
 use native.Mathlib.Omega.{arith}
+use mathlib.Core.Path.{_≡_}
 use Prim.Native.Nat.{_+_, _-_}
 use lib.ListN.{length}
 use Rattle.framing.specs.Private.{Reached}
@@ -37,6 +38,7 @@ blocks-spec =
     (λ c. search needs)
     (λ c. reached (c .before))
     (λ c. search needs)
-    (λ c. reached (c .before))
+    (λ c. search needs)
+    (λ c. let whole : c .before .block .result ≡ 32 = omega arith in rw whole at (reached (c .before)))
     (λ c. c .before .before .loop .inv)
     (λ c. c .before .loop .inv))

@@ -4,9 +4,9 @@ use mathlib.Core.Path.{_≡_, _∙_, sym}
 use Prim.Native.Nat.{_+_, _-_, _≤_}
 use lib.ListN.{length, drop}
 use Rattle.framing.specs.Private.{before}
-use Rattle.framing.proofs.IdleLaws.{before-here, before-more, before-end}
-use Rattle.framing.proofs.bytes_before.Statement.{statement}
-use Rattle.framing.proofs.bytes_before.Tie as tie
+use Rattle.framing.proofs.IdleLaws.{before-here, before-more, before-end, before-passed}
+use Rattle.framing.proofs.search.bytes_before.Statement.{statement}
+use Rattle.framing.proofs.search.bytes_before.Tie as tie
 
 -- The k bytes passed, and those before the first in what is left, are the ones to count.
 abbrev Inv-loop : tie.InvT-loop
@@ -21,7 +21,8 @@ bytes-before-spec =
     (tie.spec
     Inv-loop
     μ-loop
-    (λ c. search needs)
+    (λ c κs. search needs)
+    (λ c. let e = c .blocks-before .ensures in (e .0, before-passed _ _ _ (e .0) (e .1)))
     (λ c. search needs)
     (λ c.
     let l = c .before .before .before .loop in

@@ -1,0 +1,94 @@
+-- Frames one behind the other, as code goes through them.
+-- Assumes nothing.
+use Prim.Native.Nat.{ℕ, zero, suc, _+_, _-_, _≤_, _<_}
+use mathlib.Core.Path.{_≡_, refl, sym, ap, _∙_, subst}
+use mathlib.Core.Bool.{Bool, true, false}
+use mathlib.Core.List.{List}
+use native.Mathlib.Omega.{arith}
+use native.Mathlib.Nat.{zero-add, add-zero, sub-zero}
+use lib.ListN.{length, take, drop, length-drop}
+use lib.Seq.{take-all, drop-drop}
+use Rattle.framing.specs.declared.Reason.{Reason}
+use Rattle.framing.specs.declared.Found.{Found}
+use Rattle.framing.specs.declared.Found.the-variants.{Frame, Start, Neither}
+use Rattle.framing.specs.declared.run.Run.{Run}
+use Rattle.framing.specs.Format.{Format}
+use Rattle.framing.specs.Frame.{front}
+use Rattle.framing.specs.Leading.{ledBy, leadOf}
+use Rattle.framing.proofs.FrameLaws.{FrameIn, front-inside}
+
+-- k frames of a bytes, and those of r behind them
+abbrev pub behind : ℕ → ℕ → Run → Run
+behind a k r = record { bytes = a + r .bytes; frames = k + r .frames; waits = r .waits }
+
+-- `&s[a..]`
+pub tail : (s : List ℕ) (a : ℕ) → take (length s - a) (drop a s) ≡ drop a s
+tail s a = take-all (length s - a) (drop a s) (simp length-drop (omega arith))
+
+-- how far the code is: at place a, behind k frames
+pub record Led (f : Format) (s : List ℕ) (most a k : ℕ) : Type 0 where
+  pub inside : a ≤ length s
+  pub few : k ≤ most
+  pub less : k ≤ a
+  pub same : leadOf f most s ≡ behind a k (leadOf f (most - k) (drop a s))
+
+pub led-start : (f : Format) (s : List ℕ) (most : ℕ) → Led f s most 0 0
+led-start f s most =
+    record { inside = omega arith; few = omega arith; less = omega arith; same = rw (sub-zero most, zero-add (leadOf f most s .bytes), zero-add (leadOf f most s .frames)) }
+
+module _ (f : Format) (s : List ℕ) (most a k : ℕ) (l : Led f s most a k) where
+  -- one step
+  step : k < most → {o : Found} → front f (drop a s) ≡ o → leadOf f most s ≡ behind a k (ledBy o (λ n. leadOf f (most - (k + 1)) (drop n (drop a s))))
+  unfolding leadOf
+  step h {o} e =
+      let m : most - k ≡ suc (most - (k + 1)) = omega arith in
+      l .same ∙ rw (m, e)
+
+  pub frame-ends : (n : ℕ) → front f (drop a s) ≡ Frame n → (0 < n) × (a + n ≤ length s)
+  frame-ends n e =
+      let i = subst (FrameIn (length (drop a s))) e (front-inside f (drop a s)) in
+      (i .0, omega (arith, i .1, l .inside, length-drop a s))
+
+  pub led-frame : (n : ℕ) → k < most → front f (drop a s) ≡ Frame n → Led f s most (a + n) (k + 1)
+  led-frame n h e =
+      let i = frame-ends n e in
+      let r = leadOf f (most - (k + 1)) (drop (a + n) s) in
+      let b : a + (n + r .bytes) ≡ a + n + r .bytes = omega arith in
+      let c : k + suc (r .frames) ≡ k + 1 + r .frames = omega arith in
+      record { inside = i .1; few = omega arith; less = omega (arith, l .less, i .0); same = step h e ∙ rw (drop-drop n a s, b, c) }
+
+  pub led-start-here : k < most → front f (drop a s) ≡ Start → record { bytes = a; frames = k; waits = true } ≡ leadOf f most s
+  led-start-here h e =
+      let b : a + 0 ≡ a = omega arith in
+      let c : k + 0 ≡ k = omega arith in
+      sym (step h e ∙ rw (b, c))
+
+  pub led-neither : (r : Reason) → k < most → front f (drop a s) ≡ Neither r → record { bytes = a; frames = k; waits = false } ≡ leadOf f most s
+  led-neither r h e =
+      let b : a + 0 ≡ a = omega arith in
+      let c : k + 0 ≡ k = omega arith in
+      sym (step h e ∙ rw (b, c))
+
+  pub led-full : most ≤ k → record { bytes = a; frames = k; waits = false } ≡ leadOf f most s
+  unfolding leadOf
+  led-full h =
+      let m : most - k ≡ 0 = omega arith in
+      let b : a + 0 ≡ a = omega arith in
+      let c : k + 0 ≡ k = omega arith in
+      sym (l .same ∙ rw (m, b, c))
+
+-- ---- the first frame alone
+
+abbrev pub oneOf : Found → Run
+oneOf (Frame n) = record { bytes = n; frames = 1; waits = false }
+oneOf Start = record { bytes = 0; frames = 0; waits = true }
+oneOf (Neither r) = record { bytes = 0; frames = 0; waits = false }
+
+pub lead-one : (f : Format) (xs : List ℕ) → leadOf f 1 xs ≡ oneOf (front f xs)
+unfolding leadOf
+lead-one f xs = go (front f xs)
+  where
+    go : (o : Found) → ledBy o (λ n. record { bytes = 0; frames = 0; waits = false }) ≡ oneOf o
+    go (Frame n) = rw (add-zero n)
+    go Start = refl
+    go (Neither r) = refl
