@@ -4,6 +4,7 @@
  *
  * Every call ends, for any bytes and lengths. A number answered is 0 for done, or the number of a refusal; a refusal's values are
  * zeros, and it changes no lent byte. (Only capture_fresh, refusing an unknown format, lays the refused reader in the reader's bytes.)
+ * capture_frame_len and capture_gyro refuse nothing: they answer a length and a rate.
  *
  * Lent areas must not overlap and must be initialised. A pointer may be null only with length 0.
  */
@@ -56,6 +57,11 @@ uint32_t capture_piece(uint8_t *reader, size_t reader_len, const uint8_t *piece,
 /* Ends the line: what the closing reading adds is laid in out in the same way. */
 uint32_t capture_close(uint8_t *reader, size_t reader_len, uint8_t *out, size_t out_len);
 
+/* ---- frames */
+
+/* The length of the frame that the bytes begin with, or 0 where they begin with none or the format is unknown. */
+size_t capture_frame_len(uint32_t format, const uint8_t *bytes, size_t bytes_len);
+
 /* ---- readings of one whole frame: refusals 7, 8, 9 */
 
 /* capture_read; item is the tank's number, from 0, and is not looked at by the others */
@@ -63,7 +69,7 @@ uint32_t capture_close(uint8_t *reader, size_t reader_len, uint8_t *out, size_t 
 #define CAPTURE_MGL_HEADER 101          /* type, rate, count, version */
 #define CAPTURE_MGL_GPS 102             /* latitude, longitude, altitude, AGL, north, east, down, ground speed, track, variation, mode,
                                            tracked, visible, horizontal and vertical accuracy, capability, RAIM, its horizontal and
-                                           vertical error, whether all is valid (1 or 0), whether the altitude is (1 or 0) */
+                                           vertical error, valid (0 in mode 0, where nothing is, else 1), altitude valid (1 or 0) */
 #define CAPTURE_MGL_FUEL_COUNT 103      /* tanks */
 #define CAPTURE_MGL_FUEL_TANK 104       /* level, type, on, sensors */
 #define CAPTURE_MGL_CLOCK 105           /* clock answer, seconds */

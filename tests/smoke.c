@@ -47,6 +47,21 @@ static void readers(void)
     expect(capture_close(NULL, 0, NULL, 0) == 11, "a close of a reader of no bytes");
 }
 
+/* The frames of what a reader handed out, one by one. */
+static void lengths(void)
+{
+    const uint8_t *bytes = (const uint8_t *)"$A*41\r\n$PLARB,12.33*4C\r\n";
+
+    expect(capture_frame_len(3, bytes, 24) == 7, "the first frame");
+    expect(capture_frame_len(3, bytes + 7, 17) == 17, "the second frame");
+    expect(capture_frame_len(3, bytes + 24, 0) == 0, "no frame after the last");
+    expect(capture_frame_len(3, bytes, 6) == 0, "a proper start is no frame");
+    expect(capture_frame_len(3, bytes + 1, 23) == 0, "noise before a frame");
+    expect(capture_frame_len(1, bytes, 24) == 0, "a frame of another format");
+    expect(capture_frame_len(4, bytes, 24) == 0, "a frame of no format");
+    expect(capture_frame_len(3, NULL, 0) == 0, "the first frame of no bytes");
+}
+
 /* What is written reads back. */
 static void frames(void)
 {
@@ -57,6 +72,7 @@ static void frames(void)
     body[24] = 13, body[25] = 49, body[26] = 43, body[27] = 17, body[28] = 6, body[29] = 23;
     w = capture_write(1, 0x01000501, body, 32, frame, sizeof frame);
     expect(w.number == 0 && w.length == 44, "an MGL frame");
+    expect(capture_frame_len(1, frame, sizeof frame) == 44, "its length");
     v = capture_read(CAPTURE_MGL_HEADER, 0, frame, 44);
     expect(v.number == 0 && v.values[0] == 1 && v.values[1] == 5 && v.values[2] == 0 && v.values[3] == 1, "its header");
     v = capture_read(CAPTURE_MGL_CLOCK, 0, frame, 44);
@@ -90,6 +106,7 @@ static void frames(void)
 static void numbers(void)
 {
     const uint8_t contents[] = {1, 3, 2, 0, 0, 0, 0};
+    const uint8_t longer[] = {1, 3, 2, 0, 0, 0, 0, 255};
     struct capture_values v;
 
     expect(capture_gyro(16953) == 34530 && capture_gyro(-32768) == -192680, "gyro numbers");
@@ -99,6 +116,7 @@ static void numbers(void)
     v = capture_entry(contents, sizeof contents, 7, 0);
     expect(v.number == 0 && v.values[0] == 1 && v.values[1] == 3 && v.values[2] == 2 && v.values[4] == 7, "an entry");
     expect(capture_entry(contents, sizeof contents, 8, 0).number == 10, "another length");
+    expect(capture_entry(longer, sizeof longer, 7, 0).number == 0, "more bytes than the file has");
     expect(capture_entry(contents, sizeof contents, 7, 1).number == 9, "an entry past the last");
     expect(capture_entry(NULL, 0, 0, 0).number == 10, "contents of no bytes");
 }
@@ -106,6 +124,7 @@ static void numbers(void)
 int main(void)
 {
     readers();
+    lengths();
     frames();
     numbers();
     if (failures == 0)

@@ -34,6 +34,12 @@ pub fn close(reader: &mut [u8], room: &mut [u8]) -> Result<(), Refusal> {
     Refusal::judge(number)
 }
 
+/// The length of the frame that bytes begin with, or 0.
+pub fn frame_len(format: u32, bytes: &[u8]) -> usize {
+    // SAFETY: the slice is initialised and only read.
+    unsafe { ffi::capture_frame_len(format, bytes.as_ptr(), bytes.len()) }
+}
+
 /// A reading of a frame.
 pub fn read(reading: u32, frame: &[u8]) -> Result<Row, Refusal> {
     read_item(reading, 0, frame)

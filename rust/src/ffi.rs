@@ -77,6 +77,8 @@ extern "C" {
 
     pub fn capture_close(reader: *mut u8, reader_len: usize, out: *mut u8, out_len: usize) -> u32;
 
+    pub fn capture_frame_len(format: u32, bytes: *const u8, bytes_len: usize) -> usize;
+
     pub fn capture_read(reading: u32, item: u32, frame: *const u8, frame_len: usize) -> Values;
 
     pub fn capture_ratio(reading: u32, frame: *const u8, frame_len: usize) -> Ratio;

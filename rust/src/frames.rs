@@ -1,6 +1,23 @@
 //! Frames one by one.
 
-use crate::Format;
+use crate::{call, Format};
+use std::iter::FusedIterator;
+
+/// The length of the frame of a format that some bytes begin with, or `None` if they begin with no frame.
+///
+/// The bytes after the frame do not matter. A frame that is cut, or whose checksum is wrong, is none.
+///
+/// ```
+/// use blossomaxle::{frame_len, Format};
+///
+/// assert_eq!(frame_len(Format::Nmea, b"$A*41\r\n$PLARB"), Some(7));
+/// assert_eq!(frame_len(Format::Nmea, b"$A*42\r\n"), None);
+/// assert_eq!(frame_len(Format::Nmea, b"$A*4"), None);
+/// assert_eq!(frame_len(Format::Mgl, b"$A*41\r\n"), None);
+/// ```
+pub fn frame_len(format: Format, bytes: &[u8]) -> Option<usize> {
+    Some(call::frame_len(format.number(), bytes)).filter(|length| *length > 0)
+}
 
 /// The frames that stand back to back in bytes which a [`Reader`](crate::Reader) handed out.
 ///
@@ -23,29 +40,19 @@ pub struct Frames<'a> {
 }
 
 impl<'a> Frames<'a> {
-    /// The frames of a format in bytes that a reader of this format handed out.
+    /// The frames of a format that some bytes begin with, up to the first byte that begins none.
     ///
-    /// Where they come from elsewhere, the bytes are still given in parts, but the parts need be no frames.
+    /// Bytes that a reader of this format handed out are such frames and nothing else. Frames that come after other
+    /// bytes are found by a [`Reader`](crate::Reader).
     ///
     /// ```
     /// use blossomaxle::{Format, Frames};
     ///
-    /// assert_eq!(Frames::new(Format::OnFlight, &[0; 316]).count(), 2);
+    /// assert_eq!(Frames::new(Format::Nmea, b"$A*41\r\n$A*41\r\nnoise$A*41\r\n").count(), 2);
+    /// assert_eq!(Frames::new(Format::OnFlight, &[0; 316]).count(), 0);
     /// ```
-    pub fn new(format: Format, handed: &'a [u8]) -> Frames<'a> {
-        Frames { format, rest: handed }
-    }
-
-    /// How long the frame is that stands first.
-    fn first_len(&self) -> usize {
-        match self.format {
-            Format::Mgl => match self.rest.get(2) {
-                Some(0) => 276,
-                l => 20 + usize::from(*l.unwrap_or(&0)),
-            },
-            Format::OnFlight => 158,
-            Format::Nmea => 1 + self.rest.iter().take_while(|byte| **byte != b'\n').count(),
-        }
+    pub fn new(format: Format, bytes: &'a [u8]) -> Frames<'a> {
+        Frames { format, rest: bytes }
     }
 }
 
@@ -53,11 +60,10 @@ impl<'a> Iterator for Frames<'a> {
     type Item = &'a [u8];
 
     fn next(&mut self) -> Option<&'a [u8]> {
-        if self.rest.is_empty() {
-            return None;
-        }
-        let (first, rest) = self.rest.split_at(self.first_len().min(self.rest.len()));
+        let (first, rest) = self.rest.split_at(frame_len(self.format, self.rest)?);
         self.rest = rest;
         Some(first)
     }
 }
+
+impl FusedIterator for Frames<'_> {}

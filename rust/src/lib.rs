@@ -5,9 +5,9 @@
 //! nothing undefined, and answers exactly what the rules say (`docs/FORMATS.md` of the repository). This crate gives it
 //! types. It is for x86-64 Linux.
 //!
-//! A [`Reader`] takes a line in pieces and hands out its frames, which [`Frames`] takes one by one. [`mgl`],
-//! [`onflight`] and [`nmea`] read the fields of one frame and write frames. [`bench`](mod@bench) has the contents of
-//! files with several captures. What is refused is a [`Refusal`].
+//! A [`Reader`] takes a line in pieces and hands out its frames, which [`Frames`] takes one by one;
+//! [`frame_len`] gives the length of one. [`mgl`], [`onflight`] and [`nmea`] read the fields of one frame and write
+//! frames. [`bench`](mod@bench) has the contents of files with several captures. What is refused is a [`Refusal`].
 
 #![deny(missing_docs)]
 #![warn(unsafe_op_in_unsafe_fn)]
@@ -28,7 +28,7 @@ pub mod onflight;
 
 pub use clock::{Clock, Field};
 pub use format::Format;
-pub use frames::Frames;
+pub use frames::{frame_len, Frames};
 pub use reader::{Numbers, Reader, LONGEST_PIECE, READER_LEN, ROOM};
 pub use refusal::Refusal;
 

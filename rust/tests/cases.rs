@@ -228,6 +228,7 @@ fn the_shortest_bench_file() {
     assert_eq!(bench::count(&[], 0), Err(Refusal::BrokenContents));
     assert_eq!(bench::count(&file[..6], 7), Err(Refusal::BrokenContents));
     assert_eq!(bench::count(&file, 6), Err(Refusal::BrokenContents));
+    assert_eq!(bench::count(&[1, 3, 2, 0, 0, 0, 0, 255], 7), Ok(1));
 }
 
 #[test]

@@ -8,7 +8,7 @@ use native.Mathlib.Decide.{decLt}
 use native.Mathlib.Numerals.{add-one}
 use native.Mathlib.Omega.{arith}
 use Rattle.framing.specs.Format.{known, formatOf}
-use Rattle.benchfile.specs.Contents.{entries, formatAt, lengthAt, allKnown, lengths, bodyStart, total}
+use Rattle.benchfile.specs.Contents.{entries, formatAt, lengthAt, allKnown, lengths, bodyStart, fileLength}
 
 module _ (s : List ℕ) where
   -- whether the format of entry i is known
@@ -35,6 +35,6 @@ module _ (s : List ℕ) where
       go (no l) before = let e : i ≡ n = omega arith in rw (← e, k) (and-false (allKnown s i))
 
   -- the length of the whole file, as the code finds it
-  pub total-is : {r n : ℕ} → n ≡ entries s → r ≡ bodyStart s n → r ≡ total s
-  unfolding total
-  total-is e h = rw (← e) h
+  pub length-is : {r n : ℕ} → n ≡ entries s → r ≡ bodyStart s n → r ≡ fileLength s
+  unfolding fileLength
+  length-is e h = rw (← e) h

@@ -11,7 +11,7 @@ use Rattle.decimal.specs.Decimal.{lastDigits, digitCount, decimalText}
 use Rattle.decimal.proofs.DecimalLaws.{count-most, length-last}
 use Rattle.decimal.proofs.DigitTexts.{text-length}
 use Rattle.benchfile.specs.declared.sheet.Sheet.{Sheet}
-use Rattle.benchfile.specs.Sheet.{line, formatLabel, framesLabel, framedLabel, skippedLabel, pendingLabel, sheetText}
+use Rattle.benchfile.specs.Sheet.{line, formatLabel, framesLabel, framedLabel, skippedLabel, pendingLabel, sheetText, longestSheet}
 
 -- ---- texts laid one behind the other
 
@@ -68,7 +68,7 @@ module _ (x : Sheet) where
   unfolding sheetText
   sheet-length = simp length-append
 
-  pub sheet-short : x .format < 2 ^ 32 → x .frames < 2 ^ 32 → x .framed < 2 ^ 32 → x .skipped < 2 ^ 32 → x .pending < 2 ^ 32 → length (sheetText x) ≤ 92
+  pub sheet-short : x .format < 2 ^ 32 → x .frames < 2 ^ 32 → x .framed < 2 ^ 32 → x .skipped < 2 ^ 32 → x .pending < 2 ^ 32 → length (sheetText x) ≤ longestSheet
   sheet-short a b c d e =
       omega (arith, sheet-length, line-short formatLabel a, line-short framesLabel b, line-short framedLabel c, line-short skippedLabel d, line-short pendingLabel e)
 

@@ -10,7 +10,7 @@ use Rattle.content.specs.Answer.{Answer, given, refused, unless}
 use Rattle.benchfile.specs.declared.Refusal.{Refusal}
 use Rattle.benchfile.specs.declared.Refusal.the-variants.{Broken, NoEntry}
 use Rattle.benchfile.specs.declared.LengthReading.{LengthReading}
-use Rattle.benchfile.specs.declared.LengthReading.the-variants as fileLength
+use Rattle.benchfile.specs.declared.LengthReading.the-variants as lengthReading
 use Rattle.benchfile.specs.declared.CountReading.{CountReading}
 use Rattle.benchfile.specs.declared.CountReading.the-variants as count
 use Rattle.benchfile.specs.declared.Entry.{Entry}
@@ -37,6 +37,13 @@ lengthAt s i = low 4 s (1 + 6 * i + 2)
 abbrev pub contentsLength : ℕ → ℕ
 contentsLength n = 1 + 6 * n
 
+-- a file has at most 16 entries, and so at most 97 bytes of contents
+abbrev pub mostEntries : ℕ
+mostEntries = 16
+
+abbrev pub longestContents : ℕ
+longestContents = contentsLength mostEntries
+
 -- every one of the first k entries has a known format
 unfoldable pub allKnown : List ℕ → ℕ → Bool
 allKnown s zero = true
@@ -52,22 +59,22 @@ unfoldable pub bodyStart : List ℕ → ℕ → ℕ
 bodyStart s i = contentsLength (entries s) + lengths s i
 
 -- the length that the contents give to the whole file: 1 + 6n + lengths
-unfoldable pub total : List ℕ → ℕ
-total s = bodyStart s (entries s)
+unfoldable pub fileLength : List ℕ → ℕ
+fileLength s = bodyStart s (entries s)
 
 -- ---- what is refused with 10
 
 -- n is 1 to 16, the contents are not cut, and every format is known
 unfoldable pub isContents : List ℕ → Bool
 isContents s =
-    leb 1 (entries s) && leb (entries s) 16
+    leb 1 (entries s) && leb (entries s) mostEntries
     && leb (contentsLength (entries s)) (length s)
     && allKnown s (entries s)
 
--- "Contents are judged from the first bytes and the file's length": the total is exactly that length. The first bytes, as lent, reach
--- to the end of the contents and are no more than the file has (docs/DECISIONS.md, "The first bytes of a bench file").
+-- "Contents are judged from the first bytes and the file's length": the total is exactly that length. Bytes behind the
+-- contents are not looked at, however many are lent (docs/DECISIONS.md, "The first bytes of a bench file").
 unfoldable pub isWhole : List ℕ → ℕ → Bool
-isWhole s len = isContents s && eqb (total s) len && leb (length s) len
+isWhole s len = isContents s && eqb (fileLength s) len
 
 -- ---- what the readings answer
 
@@ -76,12 +83,12 @@ refusalNumber NoEntry = 9
 refusalNumber Broken = 10
 
 abbrev pub lengthAnswer : LengthReading → Answer ℕ
-lengthAnswer (fileLength.Read n) = given n
-lengthAnswer (fileLength.Refused r) = refused 0 (refusalNumber r)
+lengthAnswer (lengthReading.Read n) = given n
+lengthAnswer (lengthReading.Refused r) = refused 0 (refusalNumber r)
 
 -- the length that the contents give to the file
 unfoldable pub lengthOf : List ℕ → Answer ℕ
-lengthOf s = unless 0 (isContents s) 10 (given (total s))
+lengthOf s = unless 0 (isContents s) 10 (given (fileLength s))
 
 abbrev pub countAnswer : CountReading → Answer ℕ
 countAnswer (count.Read n) = given n

@@ -32,3 +32,7 @@ sheetText x =
     ++ line framedLabel (x .framed)
     ++ line skippedLabel (x .skipped)
     ++ line pendingLabel (x .pending)
+
+-- The longest sheet: labels of 32 letters, five spaces and line ends, and five numbers of ten digits.
+abbrev pub longestSheet : ℕ
+longestSheet = 92

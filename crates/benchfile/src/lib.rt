@@ -5,8 +5,11 @@ ghost use mathlib.Core.Path.{_≡_};
 ghost use Prim.Native.Nat.{_≤_, _^_, _<_};
 ghost use Rattle.benchfile.specs.Contents.{allKnown, lengths, bodyStart, isContents, isWhole, refusalNumber, lengthAnswer, lengthOf, countAnswer, countOf, entryAnswer, entryAt, entryOf};
 
-// The most bytes that contents can have: 16 entries.
-pub const LONGEST_CONTENTS: usize = 97;
+// The most entries of a file.
+pub const MOST_ENTRIES: usize = 16;
+
+// The longest contents: those of so many entries.
+pub const LONGEST_CONTENTS: usize = 1 + 6 * MOST_ENTRIES;
 
 // Why contents are refused. (Document 01's refusals 9 and 10.)
 pub enum Refusal {
@@ -93,7 +96,7 @@ fn is_contents(s: &[u8]) -> bool
     if n < 1 {
         return false;
     }
-    if 16 < n {
+    if MOST_ENTRIES < n as usize {
         return false;
     }
     if s.len() < 1 + 6 * n as usize {
@@ -109,10 +112,7 @@ fn is_whole(s: &[u8], len: u64) -> bool
     if !is_contents(s) {
         return false;
     }
-    if body_start(s, numbers::byte_at(s, 0, 0)) != len {
-        return false;
-    }
-    s.len() as u64 <= len
+    body_start(s, numbers::byte_at(s, 0, 0)) == len
 }
 
 // The length that the contents give to their file: for a reader who learns the file's length only at its end.
@@ -136,7 +136,7 @@ pub fn read_count(s: &[u8], len: u64) -> CountReading
 }
 
 // Entry i, whichever bytes stand there.
-fn entry_at(s: &[u8], i: u8) -> Entry
+pub fn entry_at(s: &[u8], i: u8) -> Entry
     ensures { λ r. ⌜ r ≡ entryAt (now (s .entry)) i ⌝ }
 {
     let at = 1 + 6 * i as usize;

@@ -16,7 +16,7 @@ pub struct Sheet {
     pub pending: u32,
 }
 
-// The most bytes that a sheet can have: labels of 32 letters, five spaces and line ends, and five numbers of ten digits.
+// The longest sheet: labels of 32 letters, five spaces and line ends, and five numbers of ten digits.
 pub const LONGEST_SHEET: usize = 92;
 
 // Lays a line, and answers the place behind it.

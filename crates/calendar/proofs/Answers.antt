@@ -2,7 +2,7 @@
 -- Assumes nothing.
 use mathlib.Core.Path.{_≡_}
 use mathlib.Core.Bool.{true, false, _&&_}
-use Prim.Native.Nat.{ℕ, _<_, _≤_}
+use Prim.Native.Nat.{ℕ, _+_, _<_, _≤_}
 use native.Mathlib.Decide.{decLe}
 use native.Mathlib.Omega.{arith}
 use lib.Dec.{leb}
@@ -12,7 +12,7 @@ use Rattle.calendar.specs.declared.Field.{Field}
 use Rattle.calendar.specs.declared.Field.the-variants.{Month, Day, Hour, Minute, Second, Year}
 use Rattle.calendar.specs.declared.Clock.the-variants.{Good, Wrong}
 use Rattle.calendar.specs.Calendar.{monthDays, daysTo}
-use Rattle.calendar.specs.Clocks.{secondsOf, since1970, clockIn}
+use Rattle.calendar.specs.Clocks.{secondsOf, since1970, clockOf}
 
 abbrev Within : ℕ → ℕ → ℕ → Type 0
 Within low n high = (low ≤ n) × (n ≤ high)
@@ -31,12 +31,12 @@ module _ {low n high : ℕ} where
 
 ruleset tests = (inside, outside, le-leb, lt-leb)
 
-module _ (year last : ℕ) (t : DateTime) where
+module _ (t : DateTime) (first largest : ℕ) where
   abbrev MonthIs : Type 0
   MonthIs = Within 1 (t .month) 12
 
   abbrev DayIs : Type 0
-  DayIs = Within 1 (t .day) (monthDays year (t .month))
+  DayIs = Within 1 (t .day) (monthDays (first + t .year) (t .month))
 
   -- f is wrong, and the fields before it are right
   abbrev pub Shows : Field → Type 0
@@ -45,10 +45,10 @@ module _ (year last : ℕ) (t : DateTime) where
   Shows Hour = MonthIs × DayIs × (23 < t .hour)
   Shows Minute = MonthIs × DayIs × (t .hour ≤ 23) × (59 < t .minute)
   Shows Second = MonthIs × DayIs × (t .hour ≤ 23) × (t .minute ≤ 59) × (59 < t .second)
-  Shows Year = MonthIs × DayIs × (t .hour ≤ 23) × (t .minute ≤ 59) × (t .second ≤ 59) × (Within 1900 year last → ⊥)
+  Shows Year = MonthIs × DayIs × (t .hour ≤ 23) × (t .minute ≤ 59) × (t .second ≤ 59) × (largest < t .year)
 
-  pub wrong : (f : Field) → Shows f → Wrong f ≡ clockIn year last t
-  unfolding clockIn
+  pub wrong : (f : Field) → Shows f → Wrong f ≡ clockOf t first largest
+  unfolding clockOf
   wrong Month m = simp tests
   wrong Day (m, d) = simp tests
   wrong Hour (m, d, h) = simp tests
@@ -56,7 +56,7 @@ module _ (year last : ℕ) (t : DateTime) where
   wrong Second (m, d, h, n, s) = simp tests
   wrong Year (m, d, h, n, s, y) = simp tests
 
-  pub good : MonthIs × DayIs × (t .hour ≤ 23) × (t .minute ≤ 59) × (t .second ≤ 59) × Within 1900 year last
-      → Good (since1970 (secondsOf (daysTo year (t .month) (t .day)) (t .hour) (t .minute) (t .second))) ≡ clockIn year last t
-  unfolding clockIn
+  pub good : MonthIs × DayIs × (t .hour ≤ 23) × (t .minute ≤ 59) × (t .second ≤ 59) × (t .year ≤ largest)
+      → Good (since1970 (secondsOf (daysTo (first + t .year) (t .month) (t .day)) (t .hour) (t .minute) (t .second))) ≡ clockOf t first largest
+  unfolding clockOf
   good (m, d, h, n, s, y) = simp tests

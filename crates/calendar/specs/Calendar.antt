@@ -1,4 +1,4 @@
--- The Gregorian calendar: leap years, months, and days counted from 1900-01-01 (docs/FORMATS.md, "Clock times").
+-- The Gregorian calendar, in which every year from 0 on follows the Gregorian rule (docs/FORMATS.md, "Clock times").
 use Prim.Native.Nat.{ℕ, zero, suc, _+_, _-_, _%_}
 use mathlib.Core.Bool.{Bool, true, false, cond}
 use mathlib.Core.List.{List, [], _∷_}
@@ -30,11 +30,11 @@ unfoldable pub monthsTo : ℕ → ℕ → ℕ
 monthsTo y zero = 0
 monthsTo y (suc m) = monthsTo y m + monthDays y (suc m)
 
--- the days of the first n years from 1900 on
+-- the days of the years before the year y, from year 0 on
 unfoldable pub yearsTo : ℕ → ℕ
 yearsTo zero = 0
-yearsTo (suc n) = yearsTo n + monthsTo (1900 + n) 12
+yearsTo (suc y) = yearsTo y + monthsTo y 12
 
--- the days from 1900-01-01 to a date
+-- the days from 0000-01-01 to a date
 unfoldable pub daysTo : ℕ → ℕ → ℕ → ℕ
-daysTo y m d = yearsTo (y - 1900) + monthsTo y (m - 1) + (d - 1)
+daysTo y m d = yearsTo y + monthsTo y (m - 1) + (d - 1)

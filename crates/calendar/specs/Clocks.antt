@@ -14,29 +14,26 @@ use Rattle.calendar.specs.Calendar.{monthDays, daysTo}
 abbrev pub secondsOf : ℕ → ℕ → ℕ → ℕ → ℕ
 secondsOf days hour minute second = ((days * 24 + hour) * 60 + minute) * 60 + second
 
--- from 1970-01-01 00:00:00 to a time, both counted from 1900-01-01 00:00:00
+-- from 1970-01-01 00:00:00 to a time, both counted from 0000-01-01 00:00:00
 abbrev pub since1970 : ℕ → ℤ
 since1970 seconds = pos seconds -ℤ pos (secondsOf (daysTo 1970 1 1) 0 0 0)
 
--- wrong with this field where the test fails
-abbrev pub judge : Bool → Field → Clock → Clock
-judge true f c = c
-judge false f c = Wrong f
+-- the clock, or wrong with this field where the test fails
+abbrev pub orWrong : Bool → Field → Clock → Clock
+orWrong true f c = c
+orWrong false f c = Wrong f
 
--- the first wrong field, in the order month, day, hour, minute, second, and last the year; else the seconds
-unfoldable pub clockIn : ℕ → ℕ → DateTime → Clock
-clockIn year last t =
-    judge (leb 1 (t .month) && leb (t .month) 12) Month
-    (judge (leb 1 (t .day) && leb (t .day) (monthDays year (t .month))) Day
-    (judge (leb (t .hour) 23) Hour
-    (judge (leb (t .minute) 59) Minute
-    (judge (leb (t .second) 59) Second
-    (judge (leb 1900 year && leb year last) Year
-    (Good (since1970 (secondsOf (daysTo year (t .month) (t .day)) (t .hour) (t .minute) (t .second)))))))))
-
--- a date and time whose year counts from `first`, and is wrong over `last`
+-- The first wrong field, in the order month, day, hour, minute, second, year; else the seconds. `first` and the year's
+-- number add up to the calendar year, which decides the length of the month. A number over `largest` is wrong.
 unfoldable pub clockOf : DateTime → ℕ → ℕ → Clock
-clockOf t first last = clockIn (first + t .year) last t
+clockOf t first largest =
+    orWrong (leb 1 (t .month) && leb (t .month) 12) Month
+    (orWrong (leb 1 (t .day) && leb (t .day) (monthDays (first + t .year) (t .month))) Day
+    (orWrong (leb (t .hour) 23) Hour
+    (orWrong (leb (t .minute) 59) Minute
+    (orWrong (leb (t .second) 59) Second
+    (orWrong (leb (t .year) largest) Year
+    (Good (since1970 (secondsOf (daysTo (first + t .year) (t .month) (t .day)) (t .hour) (t .minute) (t .second)))))))))
 
 -- six zero bytes
 unfoldable pub allZero : DateTime → Bool
@@ -44,7 +41,7 @@ allZero t = eqb (t .year + t .month + t .day + t .hour + t .minute + t .second) 
 
 -- the six bytes of a binary format: six zeros are unset
 unfoldable pub binaryClockOf : DateTime → ℕ → ℕ → Clock
-binaryClockOf t first last = cond (allZero t) Unset (clockOf t first last)
+binaryClockOf t first largest = cond (allZero t) Unset (clockOf t first largest)
 
 -- ---- the numbers of a clock: 0 unset, 1 good, 2 to 7 wrong with its field (docs/DECISIONS.md, "Numbers of the clock answers")
 

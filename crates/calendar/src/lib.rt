@@ -4,7 +4,7 @@ ghost use Prim.Native.Nat.{_-_, _^_, _≤_, _<_};
 ghost use Rattle.calendar.specs.Calendar.{leap, leapDay, plainDays, monthDays, yearsTo, monthsTo, daysTo};
 ghost use Rattle.calendar.specs.Clocks.{secondsOf, clockOf, allZero, binaryClockOf};
 
-// A date and a time of day, in numbers that may be wrong. The year counts from a first year, which the format has.
+// A date and a time of day, in numbers that may be wrong. The year's number counts from the first year of the format.
 pub struct DateTime {
     pub year: u8,
     pub month: u8,
@@ -34,8 +34,8 @@ pub enum Clock {
 // January to December, February without its leap day.
 const MONTHS: [u8; 12] = [31, 28, 31, 30, 31, 30, 31, 31, 30, 31, 30, 31];
 
-// From 1900-01-01 to 1970-01-01.
-const SECONDS_TO_1970: i64 = 2_208_988_800;
+// From 0000-01-01 to 1970-01-01.
+const SECONDS_TO_1970: i64 = 62_167_219_200;
 
 pub fn is_leap(year: u32) -> bool
     ensures { λ r. ⌜ r ≡ leap year ⌝ }
@@ -78,13 +78,12 @@ pub fn month_days(year: u32, month: u8) -> u8
     plain_days(month) + leap_day(year, month)
 }
 
-// The days of the years from 1900 on that are over when `year` begins; 460 leap years are over when 1900 begins.
+// The days of the years from 0 to the one before `year`: 365 each, and one more in each leap year.
 fn days_before_year(year: u32) -> u64
-    requires { ⌜ 1900 ≤ year ⌝ }
-    ensures { λ r. ⌜ (r ≡ yearsTo (year - 1900)) × (r < 2 ^ 41) ⌝ }
+    ensures { λ r. ⌜ (r ≡ yearsTo year) × (r < 2 ^ 41) ⌝ }
 {
-    let n = (year - 1) as u64;
-    365 * (n - 1899) + (n / 4 - n / 100 + n / 400 - 460)
+    let n = year as u64;
+    365 * n + (n + 3) / 4 - (n + 99) / 100 + (n + 399) / 400
 }
 
 // The days of the year's months before `month`.
@@ -101,18 +100,18 @@ fn days_before_month(year: u32, month: u8) -> u64
     days
 }
 
-// The seconds from 1900-01-01 00:00:00 to a date and time that is right.
-fn seconds_from_1900(year: u32, t: DateTime) -> u64
-    requires { ⌜ (1900 ≤ year) × (t .month ≤ 12) × (1 ≤ t .day) ⌝ }
+// The seconds from 0000-01-01 00:00:00 to a date and time that is right.
+fn seconds_from_0(year: u32, t: DateTime) -> u64
+    requires { ⌜ (t .month ≤ 12) × (1 ≤ t .day) ⌝ }
     ensures { λ r. ⌜ (r ≡ secondsOf (daysTo year (t .month) (t .day)) (t .hour) (t .minute) (t .second)) × (r < 2 ^ 63) ⌝ }
 {
     let days = days_before_year(year) + days_before_month(year, t.month) + (t.day - 1) as u64;
     ((days * 24 + t.hour as u64) * 60 + t.minute as u64) * 60 + t.second as u64
 }
 
-// The clock of a date and time, whose year counts from `first`. A year over `last` is wrong, and so is one before 1900.
-pub fn clock_of(t: DateTime, first: u16, last: u16) -> Clock
-    ensures { λ r. ⌜ r ≡ clockOf t first last ⌝ }
+// The clock of a date and time, whose year number counts from `first`. A year number over `largest` is wrong.
+pub fn clock_of(t: DateTime, first: u16, largest: u8) -> Clock
+    ensures { λ r. ⌜ r ≡ clockOf t first largest ⌝ }
 {
     let year = first as u32 + t.year as u32;
     if t.month < 1 {
@@ -136,13 +135,10 @@ pub fn clock_of(t: DateTime, first: u16, last: u16) -> Clock
     if 59 < t.second {
         return Clock::Wrong(Field::Second);
     }
-    if year < 1900 {
+    if largest < t.year {
         return Clock::Wrong(Field::Year);
     }
-    if (last as u32) < year {
-        return Clock::Wrong(Field::Year);
-    }
-    Clock::Good(seconds_from_1900(year, t) as i64 - SECONDS_TO_1970)
+    Clock::Good(seconds_from_0(year, t) as i64 - SECONDS_TO_1970)
 }
 
 fn all_zero(t: DateTime) -> bool
@@ -158,11 +154,11 @@ fn all_zero(t: DateTime) -> bool
 }
 
 // The clock of the six bytes of a binary format: six zeros are unset.
-pub fn binary_clock(t: DateTime, first: u16, last: u16) -> Clock
-    ensures { λ r. ⌜ r ≡ binaryClockOf t first last ⌝ }
+pub fn binary_clock(t: DateTime, first: u16, largest: u8) -> Clock
+    ensures { λ r. ⌜ r ≡ binaryClockOf t first largest ⌝ }
 {
     if all_zero(t) {
         return Clock::Unset;
     }
-    clock_of(t, first, last)
+    clock_of(t, first, largest)
 }

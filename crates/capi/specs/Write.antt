@@ -25,7 +25,7 @@ headerIn n = record {
   version = getD (lowBytes 4 n) 3 0;
 }
 
--- no bytes are a frame of an unknown format, and its writer takes no body: refusal 5
+-- No bytes are a frame of an unknown format, and its writer takes no body: refusal 5. This is a case added to document 01's list of 5.
 abbrev pub frameFor : Format → ℕ → List ℕ → List ℕ
 frameFor mgl header body = mglFrame (headerIn header) body
 frameFor onflight header body = onflightFrame body

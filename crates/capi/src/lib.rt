@@ -1,6 +1,7 @@
 // The functions that are exported to C and Rust, as include/capture.h declares them. A slice is a pointer and a length there.
 use benchfile::CountReading;
 use benchfile::EntryReading;
+use framing::run;
 use mgl::Header;
 use plars::Setting;
 use values::Ratio;
@@ -10,6 +11,9 @@ ghost use mathlib.Core.Path.{_≡_};
 ghost use mathlib.Core.List.{List, []};
 ghost use Prim.Native.Nat.{ℕ};
 ghost use Rattle.benchfile.specs.Contents.{countOf};
+ghost use Rattle.framing.specs.Format.{formatOf};
+ghost use Rattle.framing.specs.Frame.{front};
+ghost use Rattle.framing.specs.Leading.{frameLength};
 ghost use Rattle.gyro.specs.Gyro.{hundredthsOf};
 ghost use Rattle.reader.specs.Calls.{aPiece, aClose};
 ghost use Rattle.lent.specs.Calls.{lent, serveLent, freshLent};
@@ -46,6 +50,15 @@ pub extern "C" fn capture_close(reader: &mut [u8], out: &mut [u8]) -> u32
     ensures { λ a. ⌜ lent a (now (reader .exit)) (now (out .exit)) ≡ serveLent (now (reader .entry)) (aClose (now (out .entry))) ⌝ }
 {
     lent::close(reader, out)
+}
+
+// ---- frames
+
+#[no_mangle]
+pub extern "C" fn capture_frame_len(format: u32, bytes: &[u8]) -> usize
+    ensures { λ r. ⌜ r ≡ frameLength (front (formatOf format) (now (bytes .entry))) ⌝ }
+{
+    run::frame_length(format, bytes)
 }
 
 // ---- readings

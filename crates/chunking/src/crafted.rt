@@ -6,24 +6,6 @@ use reader::Reader;
 // The most bytes that a reader counts.
 const MOST: u32 = 4294967295;
 
-// The byte that each shape of the format starts with.
-fn start(format: u32) -> u8 {
-    match format {
-        1 => 0x05,
-        2 => 0x42,
-        _ => b'$',
-    }
-}
-
-// The length of the longest frame: one more than can be pending.
-fn longest(format: u32) -> u32 {
-    match format {
-        1 => Reader::MGL_LONGEST,
-        2 => Reader::ONFLIGHT_LONGEST,
-        _ => Reader::NMEA_LONGEST,
-    }
-}
-
 // An open reader with one byte pending, and the bytes held all the same.
 fn waiting(format: u32, byte: u8) -> Reader {
     Reader {
@@ -62,9 +44,10 @@ fn broken(run: Run, r: Reader) -> Run {
 
 // Four broken readers, each one change from a reader that takes a piece; then the full one.
 pub(crate) fn refused(run: Run, format: u32) -> Run {
-    let whole = waiting(format, start(format));
+    let l = framing::layout_of(format);
+    let whole = waiting(format, l.first);
     let mut long = whole;
-    long.pending = longest(format);
+    long.pending = l.longest;
     let mut closed = whole;
     closed.closed = true;
     let mut over = whole;

@@ -8,7 +8,8 @@ use lib.Dec.{T}
 use Rattle.framing.specs.Format.{Format, known, formatOf}
 use Rattle.reader.specs.Calls.{Call, aPiece, aClose}
 use Rattle.claims.specs.Machine.{Machine, judgements, after}
-use Rattle.claims.specs.Demand3.{machineAfter, Pieces, Zeros, AcceptedPieces, delivery, Same, Chunking}
+use Rattle.claims.specs.Demand3.{machineAfter}
+use Rattle.claims.specs.Chunking.{Pieces, Zeros, AcceptedPieces, delivery, Same, Chunking}
 use Rattle.claims.proofs.Demand3Proof.{reader-is, demand3}
 
 pub same-machine : (n : ℕ) (cs ds : List Call) → T (known (formatOf n)) → machineAfter n cs ≡ machineAfter n ds → Same n cs ds

@@ -10,14 +10,17 @@ use lib.Dec.{T}
 use lib.ListN.{length, length-drop}
 use lib.Seq.{length-take-le}
 use borrow.Author.Tests.{eqb-true, eq-eqb}
+use Rattle.framing.specs.declared.Layout.{Layout}
 use Rattle.framing.specs.declared.Found.{Found}
 use Rattle.framing.specs.declared.Found.the-variants.{Frame, Start, Neither}
-use Rattle.framing.specs.Format.{Format, mgl, onflight, nmea, unknown, known, shortest, longest}
-use Rattle.framing.specs.Frame.{part, good, front, IsFrame}
+use Rattle.framing.specs.Rules.{part}
+use Rattle.framing.specs.Format.{Format, mgl, onflight, nmea, unknown, known, shortest, longest, good, bodyStart, bodyEnd, layoutOf}
+use Rattle.framing.specs.Frame.{front, IsFrame}
+use Rattle.framing.proofs.FormatLaws.{lawful, good-known, body-fits}
 use Rattle.framing.proofs.FrameLaws.{frame-means}
 use Rattle.framing.proofs.Length.{Within, whole-within, longest-pending}
 use Rattle.content.specs.Answer.{given}
-use Rattle.content.specs.Body.{spans, isFrame, bodyStart, bodyEnd, placeOf, bodyOf}
+use Rattle.content.specs.Body.{spans, isFrame, placeOf, bodyOf}
 use Rattle.content.proofs.AnswerLaws.{passes}
 
 -- ---- the test
@@ -44,13 +47,6 @@ module _ (f : Format) (s : List ℕ) (h : isFrame f s ≡ true) where
   pub frame-long : shortest f ≤ length s
   frame-long = frame-within .least
 
-good-known : (f : Format) (s : List ℕ) → T (good f s) → T (known f)
-unfolding good known
-good-known mgl s h = tt
-good-known onflight s h = tt
-good-known nmea s h = tt
-good-known unknown s h = h
-
 pub frame-short : (f : Format) (s : List ℕ) → isFrame f s ≡ true → length s ≤ longest f
 frame-short f s h =
     omega (arith, frame-within f s h .most, longest-pending f (good-known f s (checksum-right f s h)))
@@ -61,16 +57,19 @@ onflight-length s h = omega (arith, frame-long onflight s h, frame-short onfligh
 
 -- ---- the body
 
-body-fits : (f : Format) → bodyStart f + bodyEnd f ≤ shortest f
-unfolding bodyStart bodyEnd shortest
-body-fits mgl = omega arith
-body-fits onflight = omega arith
-body-fits nmea = omega arith
-body-fits unknown = omega arith
-
 -- What stands before the body and after it lies inside the frame.
 pub body-inside : (f : Format) (s : List ℕ) → isFrame f s ≡ true → bodyStart f + bodyEnd f ≤ length s
 body-inside f s h = omega (arith, body-fits f, frame-long f s h)
+
+-- the numbers that code has of a format
+module _ (f : Format) {l : Layout} (e : l ≡ layoutOf f) where
+  pub head-is : l .head ≡ bodyStart f
+  unfolding layoutOf bodyStart
+  head-is = ap (λ (x : Layout). x .head) e
+
+  pub tail-is : l .tail ≡ bodyEnd f
+  unfolding layoutOf bodyEnd
+  tail-is = ap (λ (x : Layout). x .tail) e
 
 -- a bytes before the body of a frame, and e after it
 module _ (f : Format) (s : List ℕ) {a e : ℕ} (h : isFrame f s ≡ true) (p : a ≡ bodyStart f) (q : e ≡ bodyEnd f) where
@@ -92,12 +91,5 @@ body-length f s h =
     ap length (sym (body-at f s h refl refl)) ∙ part-length (bodyStart f) (length s - bodyEnd f) s (omega arith) (omega arith)
 
 -- The body of a frame is not empty: a byte more than what stands around it is there in the shortest.
-body-room : (f : Format) → T (known f) → bodyStart f + bodyEnd f < shortest f
-unfolding bodyStart bodyEnd shortest known
-body-room mgl k = omega arith
-body-room onflight k = omega arith
-body-room nmea k = omega arith
-body-room unknown k = absurd k
-
 pub body-some : (f : Format) (s : List ℕ) → isFrame f s ≡ true → 0 < length (bodyOf f s)
-body-some f s h = omega (arith, body-length f s h, body-room f (good-known f s (checksum-right f s h)), frame-long f s h)
+body-some f s h = omega (arith, body-length f s h, lawful f .body-room (good-known f s (checksum-right f s h)), frame-long f s h)

@@ -6,8 +6,9 @@ use lib.Dec.{eqb}
 use lib.ListN.{length}
 use Rattle.framing.specs.declared.Found.{Found}
 use Rattle.framing.specs.declared.Found.the-variants.{Frame, Start, Neither}
-use Rattle.framing.specs.Format.{Format, mgl, onflight, nmea, unknown}
-use Rattle.framing.specs.Frame.{front, part}
+use Rattle.framing.specs.Rules.{part}
+use Rattle.framing.specs.Format.{Format, bodyStart, bodyEnd}
+use Rattle.framing.specs.Frame.{front}
 use Rattle.content.specs.declared.Place.{Place}
 use Rattle.content.specs.declared.Place.the-variants.{At, Refused}
 use Rattle.content.specs.Answer.{Answer, given, refused, unless, refusalNumber}
@@ -21,19 +22,6 @@ spans (Neither r) n = false
 -- one whole frame of the format: exactly where `IsFrame` holds (`frame-test` of proofs/BodyLaws.antt)
 unfoldable pub isFrame : Format → List ℕ → Bool
 isFrame f s = spans (front f s) (length s)
-
--- how many bytes of a frame stand before its body, and after it
-unfoldable pub bodyStart : Format → ℕ
-bodyStart mgl = 8
-bodyStart onflight = 4
-bodyStart nmea = 1
-bodyStart unknown = 0
-
-unfoldable pub bodyEnd : Format → ℕ
-bodyEnd mgl = 4
-bodyEnd onflight = 2
-bodyEnd nmea = 5
-bodyEnd unknown = 0
 
 -- the bytes from `start` up to `end`
 pub record Span : Type 0 where

@@ -2,7 +2,7 @@
 ghost use mathlib.Core.Path.{_≡_};
 ghost use Rattle.framing.specs.Format.{formatOf};
 ghost use Rattle.content.specs.Answer.{refusalNumber};
-ghost use Rattle.content.specs.Body.{isFrame, bodyStart, bodyEnd, placeAnswer, placeOf, bodyOf};
+ghost use Rattle.content.specs.Body.{isFrame, placeAnswer, placeOf, bodyOf};
 use calendar::Clock;
 use framing::run;
 
@@ -68,30 +68,6 @@ pub fn is_frame(format: u32, s: &[u8]) -> bool
     false
 }
 
-// How many bytes of a frame stand before its body.
-fn body_start(format: u32) -> usize
-    ensures { λ r. ⌜ r ≡ bodyStart (formatOf format) ⌝ }
-{
-    match format {
-        1 => 8,
-        2 => 4,
-        3 => 1,
-        _ => 0,
-    }
-}
-
-// How many bytes of a frame stand after its body.
-fn body_end(format: u32) -> usize
-    ensures { λ r. ⌜ r ≡ bodyEnd (formatOf format) ⌝ }
-{
-    match format {
-        1 => 4,
-        2 => 2,
-        3 => 5,
-        _ => 0,
-    }
-}
-
 // Where the body of a frame is: an MGL body, an OnFlight payload, an NMEA body.
 pub fn locate(format: u32, s: &[u8]) -> Place
     ensures { λ r. ⌜ placeAnswer r ≡ placeOf (formatOf format) (now (s .entry)) ⌝ }
@@ -99,8 +75,9 @@ pub fn locate(format: u32, s: &[u8]) -> Place
     if !is_frame(format, s) {
         return Place::Refused(Refusal::NotOneFrame);
     }
-    let start = body_start(format);
-    let end = s.len() - body_end(format);
+    let l = framing::layout_of(format);
+    let start = l.head;
+    let end = s.len() - l.tail;
     Place::At { start, end }
 }
 
@@ -111,7 +88,8 @@ pub fn body(format: u32, s: &[u8]) -> &[u8]
     if !is_frame(format, s) {
         return &s[0..0];
     }
-    let start = body_start(format);
-    let end = s.len() - body_end(format);
+    let l = framing::layout_of(format);
+    let start = l.head;
+    let end = s.len() - l.tail;
     &s[start..end]
 }

@@ -11,12 +11,13 @@ use lib.ListN.{length, getD, drop}
 use borrow.Author.Tests.{ltb-true, ltb-false}
 use Rattle.framing.specs.declared.Reason.the-variants.{BodyTooLong}
 use Rattle.framing.specs.declared.Scanned.the-variants.{Broken}
-use Rattle.framing.specs.Format.{nmea}
-use Rattle.framing.specs.Shape.{permitted, nmeaNext, next, scanFrom, scan}
+use Rattle.framing.specs.Nmea.{permitted, nmeaNext}
+use Rattle.framing.specs.Format.{nmea, next}
+use Rattle.framing.specs.Shape.{scanFrom, scan}
 use Rattle.framing.specs.Private.{Permitted, Reached}
 use Rattle.framing.proofs.RunLaws.{both}
 use Rattle.framing.proofs.ShapeLaws.{scan-more}
-use Rattle.framing.proofs.HeadLaws.{body-long, body-more}
+use Rattle.framing.proofs.NmeaLaws.{body-long, body-more}
 
 -- ---- the bytes passed
 

@@ -1,22 +1,24 @@
 -- Laws of `front` over every format: a frame lies inside the bytes, and what is no start stays when bytes follow.
 -- Assumes nothing.
-use Prim.Native.Nat.{ℕ, _≤_, _<_}
+use Prim.Native.Nat.{ℕ, suc, _≤_, _<_}
 use mathlib.Core.Path.{_≡_, refl, sym, ap, _∙_, subst}
 use mathlib.Core.Logic.{_↔_}
 use mathlib.Core.Bool.{Bool, true, false, cond}
-use mathlib.Core.List.{List, _++_}
+use mathlib.Core.List.{List, [], _∷_, _++_}
 use native.Mathlib.Omega.{arith}
 use lib.ListN.{length, take}
 use lib.Seq.{take-append-le, take-length, length-take-le}
-use lib.Dec.{T}
-use Rattle.framing.specs.declared.Reason.the-variants.{Checksum}
+use lib.Dec.{T, eqb}
+use borrow.Author.Tests.{ne-eqb}
+use Rattle.framing.specs.declared.Reason.the-variants.{StartByte, Checksum}
 use Rattle.framing.specs.declared.Scanned.{Scanned}
 use Rattle.framing.specs.declared.Scanned.the-variants.{Whole, Partial, Broken}
 use Rattle.framing.specs.declared.Found.{Found}
 use Rattle.framing.specs.declared.Found.the-variants.{Frame, Start, Neither}
-use Rattle.framing.specs.Format.{Format}
-use Rattle.framing.specs.Shape.{scan, IsShape}
-use Rattle.framing.specs.Frame.{good, frontOf, front, IsFrame}
+use Rattle.framing.specs.Format.{Format, unknown, next, good}
+use Rattle.framing.specs.Shape.{scanFrom, scan}
+use Rattle.framing.specs.Meaning.{IsShape, FrameMeans}
+use Rattle.framing.specs.Frame.{frontOf, front, IsFrame}
 use Rattle.framing.proofs.TestLaws.{true-of}
 use Rattle.framing.proofs.ShapeLaws.{Settled, stays, WholeIn, inside, whole-alone}
 
@@ -29,6 +31,12 @@ front-at f xs e = ap (frontOf f xs) e
 pub front-whole : (f : Format) (xs : List ℕ) {n : ℕ} {t : Bool} → scan f xs ≡ Whole n → good f (take n xs) ≡ t
     → front f xs ≡ cond t (Frame n) (Neither Checksum)
 front-whole f xs {n} e g = front-at f xs e ∙ ap (λ (b : Bool). cond b (Frame n) (Neither Checksum)) g
+
+-- a format that is not known has no shape
+pub no-front : (xs : List ℕ) → front unknown xs ≡ cond (eqb (length xs) 0) Start (Neither StartByte)
+unfolding front scan scanFrom next
+no-front [] = refl
+no-front (x ∷ xs) = rw (ne-eqb (suc (length xs)) 0 (λ e. omega arith))
 
 -- the other way round
 record Framed (f : Format) (xs : List ℕ) (n : ℕ) : Type 0 where
@@ -47,7 +55,7 @@ frontOf-frame f xs n Partial q e = let z : _≡_ {A = ℕ} 0 1 = cc in absurd (o
 frontOf-frame f xs n (Broken r) q e = let z : _≡_ {A = ℕ} 0 1 = cc in absurd (omega arith)
 
 -- A frame is a whole shape whose checksum is right.
-pub frame-means : (f : Format) (xs : List ℕ) → IsFrame f xs ↔ (IsShape f xs × T (good f xs))
+pub frame-means : FrameMeans
 unfolding front
 frame-means f xs = (
   λ e.

@@ -1,25 +1,29 @@
 -- Laws of the bytes that begin no shape: how many they are, how code counts them, and what the reading makes of them.
 -- Assumes nothing.
 use Prim.Native.Nat.{ℕ, zero, suc, _+_, _*_, _≤_, _<_}
-use mathlib.Core.Path.{_≡_, refl, ap, _∙_}
+use mathlib.Core.Path.{_≡_, refl, sym, ap, _∙_, subst}
+use mathlib.Core.Logic.{⊎-elim}
 use mathlib.Core.Bool.{Bool, true, false, cond}
 use mathlib.Core.List.{List, [], _∷_, _++_}
 use native.Mathlib.Omega.{arith}
 use native.Mathlib.Nat.{suc-mul}
 use native.Mathlib.Numerals.{add-one}
-use lib.Dec.{eqb}
+use lib.Dec.{T, eqb}
 use lib.ListN.{length, getD, drop, replicate, drop-of-length-le}
 use lib.Seq.{drop-cons}
 use borrow.Author.Tests.{eq-eqb, ne-eqb, eqb-false, not-true}
 use Rattle.framing.specs.declared.Reason.{Reason}
 use Rattle.framing.specs.declared.Reason.the-variants.{StartByte}
 use Rattle.framing.specs.declared.Found.the-variants.{Neither}
-use Rattle.framing.specs.Format.{Format, mgl, onflight, nmea, unknown}
-use Rattle.framing.specs.Shape.{Next, more, bad, must, mglNext, onflightNext, nmeaNext, next, follow, scanFrom, scan}
+use Rattle.framing.specs.Rules.{Next, more, bad, Rules, must}
+use Rattle.framing.specs.Format.{Format, known, first, next}
+use Rattle.framing.specs.Shape.{follow, scanFrom, scan}
 use Rattle.framing.specs.Frame.{front}
 use Rattle.framing.specs.Reading.{ongoing, Event, skipped, Reading, _then_, read, joined, total, oneFrame, framedBytes, skippedBytes}
 use Rattle.framing.specs.Idle.{fits, begins, idle}
 use Rattle.framing.specs.Private.{Each, differs, before}
+use Rattle.framing.proofs.Lawful.{Opens}
+use Rattle.framing.proofs.FormatLaws.{lawful}
 use Rattle.framing.proofs.FrameLaws.{front-at}
 use Rattle.framing.proofs.ReadingLaws.{read-at}
 
@@ -35,22 +39,6 @@ idle-most f (x ∷ xs) = pick (begins f x) (idle-most f xs)
     pick false h = omega arith
 
 -- ---- the one byte that begins a shape
-
--- every shape of a format starts with a
-abbrev pub Opens : Format → ℕ → Type 0
-Opens f a = (x : ℕ) → next f 0 0 x ≡ must (eqb x a) (more 0) StartByte
-
-pub mgl-opens : Opens mgl 0x05
-unfolding next mglNext
-mgl-opens x = refl
-
-pub onflight-opens : Opens onflight 0x42
-unfolding next onflightNext
-onflight-opens x = refl
-
-pub nmea-opens : Opens nmea 0x24
-unfolding next nmeaNext
-nmea-opens x = refl
 
 module _ (f : Format) (a : ℕ) (o : Opens f a) where
   pub idle-before : (xs : List ℕ) → idle f xs ≡ before a xs
@@ -70,10 +58,16 @@ module _ (f : Format) (a : ℕ) (o : Opens f a) where
       pick true e = cc
       pick false e = refl
 
-pub idle-all : (xs : List ℕ) → idle unknown xs ≡ length xs
-unfolding idle begins next
-idle-all [] = refl
-idle-all (x ∷ xs) = ap suc (idle-all xs)
+-- a format that is not known has no shape
+nothing : (f : Format) → known f ≡ false → (k m x : ℕ) → next f k m x ≡ bad StartByte
+unfolding next
+nothing f e k m x =
+    ⊎-elim (λ t. absurd (subst T e t)) (λ q. ap (λ (r : Rules). r .next k m x) q) (lawful f .known-or-none)
+
+pub idle-all : (f : Format) → known f ≡ false → (xs : List ℕ) → idle f xs ≡ length xs
+unfolding idle begins
+idle-all f e [] = refl
+idle-all f e (x ∷ xs) = rw (nothing f e 0 0 x, idle-all f e xs)
 
 -- ---- how code counts them, from place k on
 
@@ -101,11 +95,11 @@ before-passed a s (suc k) h e =
 -- ---- the reading skips them
 
 not-first : (f : Format) (x : ℕ) → begins f x ≡ false → next f 0 0 x ≡ bad StartByte
-unfolding next
-not-first mgl x e = other mgl 0x05 mgl-opens x e
-not-first onflight x e = other onflight 0x42 onflight-opens x e
-not-first nmea x e = other nmea 0x24 nmea-opens x e
-not-first unknown x e = refl
+not-first f x e = go (known f) refl
+  where
+    go : (t : Bool) → known f ≡ t → next f 0 0 x ≡ bad StartByte
+    go true k = other f (first f) (lawful f .opens (subst T (sym k) tt)) x e
+    go false k = nothing f k 0 0 x
 
 front-idle : (f : Format) (x : ℕ) (xs : List ℕ) → begins f x ≡ false → front f (x ∷ xs) ≡ Neither StartByte
 unfolding scan scanFrom

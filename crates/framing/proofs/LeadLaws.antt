@@ -14,7 +14,8 @@ use Rattle.framing.specs.declared.Found.the-variants.{Frame, Start, Neit
 use Rattle.framing.specs.declared.run.Run.{Run}
 use Rattle.framing.specs.Format.{Format}
 use Rattle.framing.specs.Frame.{front}
-use Rattle.framing.specs.Leading.{ledBy, leadOf}
+use Rattle.framing.specs.Leading.{ledBy, leadOf, frameLength}
+use Rattle.framing.specs.Meaning.{LengthTells}
 use Rattle.framing.proofs.FrameLaws.{FrameIn, front-inside}
 
 -- k frames of a bytes, and those of r behind them
@@ -92,3 +93,19 @@ lead-one f xs = go (front f xs)
     go (Frame n) = rw (add-zero n)
     go Start = refl
     go (Neither r) = refl
+
+pub one-length : (f : Format) (xs : List ℕ) → leadOf f 1 xs .bytes ≡ frameLength (front f xs)
+one-length f xs = ap (λ (r : Run). r .bytes) (lead-one f xs) ∙ go (front f xs)
+  where
+    go : (o : Found) → oneOf o .bytes ≡ frameLength o
+    go (Frame n) = refl
+    go Start = refl
+    go (Neither r) = refl
+
+length-frame : (o : Found) (n : ℕ) → frameLength o ≡ n → 0 < n → o ≡ Frame n
+length-frame (Frame m) n e h = ap Frame e
+length-frame Start n e h = absurd (omega arith)
+length-frame (Neither r) n e h = absurd (omega arith)
+
+pub length-tells : LengthTells
+length-tells f n xs = (λ e. (ap frameLength e, subst (FrameIn (length xs)) e (front-inside f xs) .0), λ h. length-frame (front f xs) n (h .0) (h .1))

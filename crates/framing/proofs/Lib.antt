@@ -1,12 +1,18 @@
 -- Laws of the formats, their shapes, frames and readings, each proved once over the format; and the proofs of the functions.
 pub mod BodyLaws
+pub mod ByteLaws
 pub mod FormatLaws
+pub mod FoundLaws
 pub mod FrameLaws
 pub mod HeadLaws
 pub mod IdleLaws
+pub mod Lawful
 pub mod LeadLaws
 pub mod Length
 pub mod LineLaws
+pub mod MglLaws
+pub mod NmeaLaws
+pub mod OnflightLaws
 pub mod ReadingLaws
 pub mod RunLaws
 pub mod ShapeLaws

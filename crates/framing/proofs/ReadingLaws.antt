@@ -16,6 +16,7 @@ use Rattle.framing.specs.Format.{Format, pendingBound}
 use Rattle.framing.specs.Shape.{scanFrom, scan}
 use Rattle.framing.specs.Frame.{front, IsFrame}
 use Rattle.framing.specs.Reading.{Mode, ongoing, closing, Event, framed, skipped, Reading, stop, _then_, step, readSteps, read, extend, frames, joined, total, oneFrame, framedBytes, framedCount, skippedCount, pendingCount}
+use Rattle.framing.specs.Meaning.{ReadCons, ClosingRest, ReadNil}
 use Rattle.framing.proofs.FrameLaws.{FrameIn, front-inside, Decided, front-stays, frame-alone, start-partial}
 use Rattle.framing.proofs.Length.{start-bound}
 
@@ -45,12 +46,12 @@ enough (suc n) (suc n′) c f (x ∷ xs) h h′ =
     step-cong c (front f (x ∷ xs)) x xs (λ ys. readSteps n c f ys) (λ ys. readSteps n′ c f ys) (front-inside f (x ∷ xs))
     (λ ys l. enough n n′ c f ys (omega arith) (omega arith))
 
-pub read-nil : (c : Mode) (f : Format) → read c f [] ≡ stop []
+pub read-nil : ReadNil
 unfolding read readSteps
 read-nil c f = refl
 
 -- A reading of x ∷ xs takes the step that their front says, and then reads what is left.
-pub read-cons : (c : Mode) (f : Format) (x : ℕ) (xs : List ℕ) → read c f (x ∷ xs) ≡ step c (front f (x ∷ xs)) x xs (read c f)
+pub read-cons : ReadCons
 unfolding read readSteps
 read-cons c f x xs =
     step-cong c (front f (x ∷ xs)) x xs (λ ys. readSteps (length xs) c f ys) (read c f) (front-inside f (x ∷ xs))
@@ -121,7 +122,7 @@ closing-extends f xs = simp append-nil at (streaming closing f xs [])
 -- ---- what is pending
 
 -- The closing reading leaves nothing pending.
-pub closing-rest : (f : Format) (xs : List ℕ) → read closing f xs .rest ≡ []
+pub closing-rest : ClosingRest
 closing-rest f =
     by-fronts f (λ xs. read closing f xs .rest ≡ []) (rw (read-nil closing f))
     (λ n x xs e h ih. rw (read-at closing f x xs e) ih)

@@ -15,8 +15,10 @@ use borrow.Author.Tests.{eqb-true, eqb-false, le-leb, lt-leb}
 use Rattle.framing.specs.declared.Reason.{Reason}
 use Rattle.framing.specs.declared.Scanned.{Scanned}
 use Rattle.framing.specs.declared.Scanned.the-variants.{Whole, Partial, Broken}
-use Rattle.framing.specs.Format.{Format, mgl, onflight}
-use Rattle.framing.specs.Shape.{Next, more, done, bad, upTo, mglNext, onflightNext, next, follow, scanFrom, scan, IsShape}
+use Rattle.framing.specs.Rules.{Next, more, done, bad, upTo}
+use Rattle.framing.specs.Format.{Format, next}
+use Rattle.framing.specs.Shape.{follow, scanFrom, scan}
+use Rattle.framing.specs.Meaning.{IsShape, PrefixFree, WholeMeans}
 
 -- ---- bytes that follow
 
@@ -98,6 +100,17 @@ whole-alone f n xs e = pick (scan f (take n xs)) refl
         absurd (omega (arith, length-take-le n xs (omega arith)))
     pick (Broken r) q = sym (rw (take-append-drop n xs) at (stays f (take n xs) (drop n xs) (subst Settled (sym q) tt))) ∙ e
 
+pub whole-means : WholeMeans
+whole-means f n xs = (
+  λ e.
+      let i = subst (WholeIn 0 (length xs)) e (inside f xs) in
+      let l : n ≤ length xs = omega arith in
+      (l, whole-alone f n xs e ∙ ap Whole (sym (length-take-le n xs l))),
+  λ h.
+      let q : scan f (take n xs) ≡ Whole n = h .1 ∙ ap Whole (length-take-le n xs (h .0)) in
+      ap (scan f) (sym (take-append-drop n xs)) ∙ stays f (take n xs) (drop n xs) (subst Settled (sym q) tt) ∙ q,
+)
+
 -- ---- no shape begins another
 
 not-settled : (o : Scanned) → (Settled o → ⊥) → o ≡ Partial
@@ -113,7 +126,7 @@ partial-of-shape f xs ys l e =
     omega (arith, length-append xs ys))
 
 -- Shapes are prefix-free.
-pub prefix-free : (f : Format) (xs ys : List ℕ) → IsShape f xs → IsShape f (xs ++ ys) → ys ≡ []
+pub prefix-free : PrefixFree
 prefix-free f xs [] e g = refl
 prefix-free f xs (y ∷ ys) e g = let p = partial-of-shape f xs (y ∷ ys) (omega arith) g in let z : Whole (length xs) ≡ Partial = cc in cc
 
@@ -168,17 +181,9 @@ counted-at f h c k m s l i g =
     let e : k + length (drop k s) ≡ length s = rw (length-drop k s) (omega arith) in
     rw e at (counted f h c k m (drop k s) l g)
 
-from-four : (f : Format) → ((k m b : ℕ) → next f (suc (suc (suc (suc k)))) m b ≡ upTo m (suc (suc (suc (suc k))))) → CountsFrom f 4
+pub from-four : (f : Format) → ((k m b : ℕ) → next f (suc (suc (suc (suc k)))) m b ≡ upTo m (suc (suc (suc (suc k))))) → CountsFrom f 4
 from-four f h zero m b l = absurd (omega arith)
 from-four f h (suc zero) m b l = absurd (omega arith)
 from-four f h (suc (suc zero)) m b l = absurd (omega arith)
 from-four f h (suc (suc (suc zero))) m b l = absurd (omega arith)
 from-four f h (suc (suc (suc (suc k)))) m b l = h k m b
-
-pub mgl-counts : CountsFrom mgl 4
-unfolding next mglNext
-mgl-counts = from-four mgl (λ k m b. refl)
-
-pub onflight-counts : CountsFrom onflight 4
-unfolding next onflightNext
-onflight-counts = from-four onflight (λ k m b. refl)

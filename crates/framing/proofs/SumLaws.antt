@@ -12,8 +12,8 @@ use lib.Seq.{length-take-le, getD-take, take-all, take-take, take-nil}
 use borrow.Author.Tests.{ltb-true, ltb-false}
 use Rattle.checksum.specs.Xor.{xorOf}
 use Rattle.checksum.proofs.Fold.{fold-more, fold-end}
-use Rattle.framing.specs.Format.{nmea}
-use Rattle.framing.specs.Frame.{hexValue, good}
+use Rattle.framing.specs.Nmea.{hexValue}
+use Rattle.framing.specs.Format.{nmea, good}
 
 pub first-more : (s : List ℕ) (n i over x : ℕ) {r : ℕ} → over ≡ 128 - n → n ≤ 80 → i < 80 → n ≤ length s → r ≡ cond (ltb ((i + over) % 256) 128) (getD s i 0) 0
     → foldl bitXor (bitXor x r) (drop (i + 1) (take n s)) ≡ foldl bitXor x (drop i (take n s))

@@ -2,8 +2,8 @@
 use Prim.Native.Nat.{ℕ, suc}
 use mathlib.Core.Bool.{Bool, true, false, cond}
 use mathlib.Core.List.{List, [], _∷_}
-use Rattle.framing.specs.Format.{Format}
-use Rattle.framing.specs.Shape.{Next, more, done, bad, next}
+use Rattle.framing.specs.Rules.{Next, more, done, bad}
+use Rattle.framing.specs.Format.{Format, next}
 
 -- whether a shape has the byte that was judged so
 abbrev pub fits : Next → Bool

@@ -3,6 +3,11 @@ pub mod Format
 pub mod Frame
 pub mod Idle
 pub mod Leading
+pub mod Meaning
+pub mod Mgl
+pub mod Nmea
+pub mod Onflight
 pub mod Private
 pub mod Reading
+pub mod Rules
 pub mod Shape

@@ -8,7 +8,7 @@ use lib.ListN.{length, getD}
 use Rattle.framing.specs.declared.Reason.the-variants.{StartByte, SecondByte}
 use Rattle.framing.specs.declared.Scanned.{Scanned}
 use Rattle.framing.specs.declared.Scanned.the-variants.{Whole, Partial, Broken}
-use Rattle.framing.specs.Shape.{permitted, hexDigit}
+use Rattle.framing.specs.Nmea.{permitted, hexDigit}
 
 -- what some bytes are to a shape of the two bytes a and b
 unfoldable pub syncOf : ℕ → ℕ → List ℕ → Scanned

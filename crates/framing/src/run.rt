@@ -3,9 +3,11 @@
 use super::Found;
 ghost use mathlib.Core.Path.{_≡_};
 ghost use Rattle.framing.specs.Format.{formatOf};
-ghost use Rattle.framing.specs.Leading.{leadOf};
+ghost use Rattle.framing.specs.Frame.{front};
+ghost use Rattle.framing.specs.Leading.{leadOf, frameLength};
 
-// Such frames: their bytes, how many they are, and whether what follows them waits for more.
+// Such frames: their bytes, how many they are, and whether what follows is nothing or a proper start. It is false where the limit ended
+// the run: what follows was not looked at.
 pub struct Run {
     pub bytes: usize,
     pub frames: usize,
@@ -45,4 +47,12 @@ pub fn leading(format: u32, s: &[u8], most: usize) -> Run
         frames: frames,
         waits: false,
     }
+}
+
+// The length of the frame that s begins with, or 0.
+pub fn frame_length(format: u32, s: &[u8]) -> usize
+    ensures { λ n. ⌜ n ≡ frameLength (front (formatOf format) (now (s .entry))) ⌝ }
+{
+    let found = leading(format, s, 1);
+    found.bytes
 }

@@ -22,12 +22,14 @@ abbrev pub settled : List ℕ → List ℕ → Returned → Lent
 settled bs room g =
     cond (eqb (g .outcome .answer) 0) (lent 0 (encode (g .outcome .reader)) (g .room)) (lent (g .outcome .answer) bs room)
 
--- A call on a reader's bytes. Bytes of another length hold no reader: refusal 11.
+-- A call on a reader's bytes. Bytes of another length hold no reader: refusal 11. This is a case added to document 01's list of 11,
+-- which knows no such bytes.
 unfoldable pub serveLent : List ℕ → Call → Lent
 serveLent bs c =
     cond (eqb (length bs) readerLength) (settled bs (roomOf c) (serve (decode bs) c)) (lent 11 bs (roomOf c))
 
--- A fresh reader is laid in the bytes, the refused one too: they are where it is handed back. Bytes of another length are untouched.
+-- A fresh reader is laid in the bytes, the refused one too: they are where it is handed back. Bytes of another length are untouched, and
+-- `capture_fresh` answers 11 for them, also where the format is known: the same added case.
 unfoldable pub freshLent : ℕ → List ℕ → Lent
 freshLent n bs =
     cond (eqb (length bs) readerLength) (lent (freshOf n .answer) (encode (freshOf n .reader)) []) (lent 11 bs [])

@@ -1,23 +1,27 @@
--- Demand 1 for a reader that is lent bytes: a call is refused as it must be and then changes nothing, along every list of calls.
+-- Demand 1 for a reader that is lent bytes: a request is refused as it must be and then, but for the one exception,
+-- changes nothing, along every list of requests.
 -- Assumes nothing.
 use Prim.Native.Nat.{ℕ}
-use mathlib.Core.Path.{_≡_, refl, sym, ap, subst, _∙_}
-use mathlib.Core.Bool.{Bool, true, false, cond}
+use mathlib.Core.Path.{_≡_, refl, sym, ap, _∙_}
+use mathlib.Core.Bool.{Bool, true, false, cond, not, _&&_, _||_}
 use mathlib.Core.List.{List, [], _∷_}
 use lib.Dec.{eqb}
 use lib.ListN.{length}
 use borrow.Author.Tests.{eqb-true, eqb-false}
+use Rattle.framing.specs.Format.{known, formatOf}
+use Rattle.reader.specs.declared.Opening.{Opening}
+use Rattle.reader.specs.State.{empty, freshOf}
 use Rattle.reader.specs.Refusal.{refusal}
 use Rattle.reader.specs.Calls.{Call, bytesOf, roomOf, Returned, serve}
 use Rattle.lent.specs.Bytes.{readerLength, encode, decode}
-use Rattle.lent.specs.Calls.{Lent, lent, settled, serveLent}
+use Rattle.lent.specs.Calls.{Lent, lent, settled, serveLent, freshLent}
 use Rattle.lent.proofs.LentLaws.{serve-answer}
-use Rattle.lent_claims.specs.Lists.{finalBytes, acceptedCalls}
-use Rattle.lent_claims.specs.Demands.{lentRefusal, Kept, LentDemand1}
+use Rattle.lent_claims.specs.Lists.{Request, aFresh, aCall, served, finalBytes, unknownFresh, writingRequests}
+use Rattle.lent_claims.specs.Demands.{lentRefusal, refusedBytes, lentRoom, Kept, LentDemand1}
 
--- ---- one call
+-- ---- one request
 
--- a call that answers a, and refused leaves the bytes and the room
+-- a request that answers a, and refused leaves these bytes and the room
 record Answers (a : ℕ) (bs room : List ℕ) (w : Lent) : Type 0 where
   answer : w .answer ≡ a
   kept : (w .answer ≡ 0 → ⊥) → w ≡ lent a bs room
@@ -26,11 +30,12 @@ settled-answers : (bs room : List ℕ) (g : Returned) → Answers (g .outcome .a
 settled-answers bs room g = go (eqb (g .outcome .answer) 0) (eqb-true (g .outcome .answer) 0)
   where
     go : (t : Bool) → (t ≡ true → g .outcome .answer ≡ 0)
-        → Answers (g .outcome .answer) bs room (cond t (lent 0 (encode (g .outcome .reader)) (g .room)) (lent (g .outcome .answer) bs room))
+        → Answers (g .outcome .answer) bs room
+        (cond t (lent 0 (encode (g .outcome .reader)) (g .room)) (lent (g .outcome .answer) bs room))
     go true z = record { answer = sym (z refl); kept = λ n. absurd (n refl) }
     go false z = record { answer = refl; kept = λ n. refl }
 
-call-answers : (bs : List ℕ) (c : Call) → Answers (lentRefusal bs c) bs (roomOf c) (serveLent bs c)
+call-answers : (bs : List ℕ) (c : Call) → Answers (lentRefusal bs (aCall c)) bs (roomOf c) (serveLent bs c)
 unfolding serveLent
 call-answers bs c = go (eqb (length bs) readerLength)
   where
@@ -39,28 +44,57 @@ call-answers bs c = go (eqb (length bs) readerLength)
         (cond t (settled bs (roomOf c) (serve (decode bs) c)) (lent 11 bs (roomOf c)))
     go true =
         let g = serve (decode bs) c in
-        subst (λ (a : ℕ). Answers a bs (roomOf c) (settled bs (roomOf c) g)) (serve-answer (decode bs) c) (settled-answers bs (roomOf c) g)
+        rw (← serve-answer (decode bs) c) (settled-answers bs (roomOf c) g)
     go false = record { answer = refl; kept = λ n. refl }
 
--- ---- a list of calls
+fresh-answers : (bs : List ℕ) (n : ℕ) → Answers (lentRefusal bs (aFresh n)) (refusedBytes bs (aFresh n)) [] (freshLent n bs)
+unfolding freshLent freshOf
+fresh-answers bs n = go (eqb (length bs) readerLength) (known (formatOf n))
+  where
+    opening : Bool → Opening
+    opening k = cond k (record { answer = 0; reader = empty n false }) (record { answer = 11; reader = empty 0 true })
 
-kept-along : (bs : List ℕ) (cs : List Call) → Kept bs cs
+    go : (t k : Bool)
+        → Answers (cond t (cond k 0 11) 11) (cond (t && not k) (encode (empty 0 true)) bs) []
+        (cond t (lent (opening k .answer) (encode (opening k .reader)) []) (lent 11 bs []))
+    go true true = record { answer = refl; kept = λ z. absurd (z refl) }
+    go true false = record { answer = refl; kept = λ z. refl }
+    go false k = record { answer = refl; kept = λ z. refl }
+
+request-answers : (bs : List ℕ) (q : Request) → Answers (lentRefusal bs q) (refusedBytes bs q) (lentRoom q) (served bs q)
+request-answers bs (aFresh n) = fresh-answers bs n
+request-answers bs (aCall c) = call-answers bs c
+
+-- ---- a list of requests
+
+kept-along : (bs : List ℕ) (qs : List Request) → Kept bs qs
 unfolding Kept
 kept-along bs [] = tt
-kept-along bs (c ∷ cs) = let a = call-answers bs c in (a .answer, (a .kept, kept-along (serveLent bs c .reader) cs))
+kept-along bs (q ∷ qs) =
+    let a = request-answers bs q in
+    (a .answer, (a .kept, kept-along (served bs q .reader) qs))
 
-accepted-alone : (bs : List ℕ) (cs : List Call) → finalBytes bs cs ≡ finalBytes bs (acceptedCalls bs cs)
-unfolding finalBytes acceptedCalls
-accepted-alone bs [] = refl
-accepted-alone bs (c ∷ cs) = accepted-alone next cs ∙ go (eqb (serveLent bs c .answer) 0) (eqb-false (serveLent bs c .answer) 0)
+-- A refused request that is no exception leaves the bytes.
+left : (bs : List ℕ) (q : Request) → eqb (served bs q .answer) 0 ≡ false → unknownFresh bs q ≡ false → served bs q .reader ≡ bs
+left bs q a x =
+    ap (λ (w : Lent). w .reader) (request-answers bs q .kept (eqb-false (served bs q .answer) 0 a)) ∙ rw x
+
+writing-alone : (bs : List ℕ) (qs : List Request) → finalBytes bs qs ≡ finalBytes bs (writingRequests bs qs)
+unfolding finalBytes writingRequests
+writing-alone bs [] = refl
+writing-alone bs (q ∷ qs) = writing-alone next qs ∙ go (eqb (served bs q .answer) 0) (unknownFresh bs q) refl refl
   where
     next : List ℕ
-    next = serveLent bs c .reader
+    next = served bs q .reader
 
-    go : (t : Bool) → (t ≡ false → serveLent bs c .answer ≡ 0 → ⊥)
-        → finalBytes next (acceptedCalls next cs) ≡ finalBytes bs (cond t (c ∷ acceptedCalls next cs) (acceptedCalls next cs))
-    go true z = refl
-    go false z = ap (λ (w : Lent). finalBytes (w .reader) (acceptedCalls next cs)) (call-answers bs c .kept (z refl))
+    later : List Request
+    later = writingRequests next qs
+
+    go : (a x : Bool) → eqb (served bs q .answer) 0 ≡ a → unknownFresh bs q ≡ x
+        → finalBytes next later ≡ finalBytes bs (cond (a || x) (q ∷ later) later)
+    go true x e h = refl
+    go false true e h = refl
+    go false false e h = ap (λ (b : List ℕ). finalBytes b later) (left bs q e h)
 
 pub lent-demand1 : LentDemand1
-lent-demand1 bs cs = record { kept = kept-along bs cs; accepted = accepted-alone bs cs }
+lent-demand1 bs qs = record { kept = kept-along bs qs; writing = writing-alone bs qs }

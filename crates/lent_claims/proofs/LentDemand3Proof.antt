@@ -1,8 +1,9 @@
--- Demand 3 for a reader that is lent bytes, by induction on the list of calls: the bytes are all along those of the machine's view.
+-- Demand 3 for a reader that is lent bytes, by induction on the list of calls: the bytes are all along those of the
+-- machine's view.
 -- Assumes nothing.
 use Prim.Native.Nat.{ℕ, zero, suc, _-_, _≤_}
 use mathlib.Core.Path.{_≡_, refl, sym, ap, subst, _∙_}
-use mathlib.Core.List.{List, [], _∷_}
+use mathlib.Core.List.{List, [], _∷_, map}
 use native.Mathlib.Omega.{arith}
 use lib.Dec.{T}
 use lib.ListN.{length, replicate, length-append, length-replicate}
@@ -21,7 +22,7 @@ use Rattle.lent.specs.Bytes.{encode}
 use Rattle.lent.specs.Calls.{Lent}
 use Rattle.lent.proofs.BytesLaws.{Fits32, decode-encode}
 use Rattle.lent.proofs.LentLaws.{fresh-laid, serve-encoded}
-use Rattle.lent_claims.specs.Lists.{lentAnswers, finalBytes, lentOut}
+use Rattle.lent_claims.specs.Lists.{aCall, finalBytes, lentAnswers, lentOut}
 use Rattle.lent_claims.specs.Demands.{freshBytes, LentDemand3}
 
 -- ---- the view goes into bytes
@@ -53,7 +54,7 @@ view-fits n m k h =
 record SameCalls (f : Format) (m : Machine) (r : State) (cs : List Call) : Type 0 where
   answer : lentAnswers (encode r) cs ≡ answers r cs
   output : lentOut f m (encode r) cs ≡ handedOut f m r cs
-  reader : finalBytes (encode r) cs ≡ encode (finalReader r cs)
+  reader : finalBytes (encode r) (map aCall cs) ≡ encode (finalReader r cs)
   fits : Fits32 (finalReader r cs)
 
 same-calls : (n : ℕ) (m : Machine) (cs : List Call) → T (known (formatOf n)) → WithinLimit m → SameCalls (formatOf n) m (view n m) cs
@@ -66,7 +67,7 @@ same-calls n m (c ∷ cs) k h =
     record {
       answer = rw (e, s .reader, ih .answer);
       output = rw (e, s .reader, ih .output);
-      reader = rw (e, s .reader) (ih .reader);
+      reader = ap (λ (w : Lent). finalBytes (w .reader) (map aCall cs)) e ∙ rw (s .reader) (ih .reader);
       fits = rw (s .reader) (ih .fits);
     }
 

@@ -1,41 +1,58 @@
 -- Demands 1 and 3 for a reader that is lent bytes (docs/INTERFACE.md, "Readers").
 use Prim.Native.Nat.{ℕ}
 use mathlib.Core.Path.{_≡_}
-use mathlib.Core.Bool.{cond}
-use mathlib.Core.List.{List, [], _∷_}
+use mathlib.Core.Bool.{true, cond}
+use mathlib.Core.List.{List, [], _∷_, map}
 use lib.Dec.{T, eqb}
 use lib.ListN.{length}
 use Rattle.framing.specs.Format.{known, formatOf}
 use Rattle.framing.specs.Reading.{joined}
+use Rattle.reader.specs.State.{empty}
 use Rattle.reader.specs.Refusal.{refusal}
 use Rattle.reader.specs.Calls.{Call, bytesOf, roomOf}
 use Rattle.claims.specs.Machine.{start, judgements}
 use Rattle.claims.specs.Demand3.{readingAfter, readerAfter}
 use Rattle.lent.specs.Bytes.{readerLength, encode, decode}
-use Rattle.lent.specs.Calls.{lent, serveLent, freshLent}
-use Rattle.lent_claims.specs.Lists.{lentAnswers, finalBytes, lentOut, acceptedCalls}
+use Rattle.lent.specs.Calls.{lent, freshLent}
+use Rattle.lent_claims.specs.Lists.{Request, aFresh, aCall, served, finalBytes, unknownFresh, writingRequests, lentAnswers, lentOut}
 
--- ---- demand 1: any bytes, of any length and content, any list of calls
+-- ---- demand 1: any bytes, of any length and content, any list of fresh requests, pieces and closes
 
--- the refusal of a call on any bytes, exactly when document 01 says
-abbrev pub lentRefusal : List ℕ → Call → ℕ
-lentRefusal bs c = cond (eqb (length bs) readerLength) (refusal (decode bs) (length (bytesOf c)) (length (roomOf c))) 11
+-- the refusal of a request on bytes of a reader's length, or 0, exactly when document 01 says
+abbrev pub requestRefusal : List ℕ → Request → ℕ
+requestRefusal bs (aFresh n) = cond (known (formatOf n)) 0 11
+requestRefusal bs (aCall c) = refusal (decode bs) (length (bytesOf c)) (length (roomOf c))
 
--- along a list, every answer is that refusal, and a refused call leaves every byte of the reader and of its room
-unfoldable pub Kept : List ℕ → List Call → Type 0
+-- the refusal of a request on any bytes: those of another length hold no reader
+abbrev pub lentRefusal : List ℕ → Request → ℕ
+lentRefusal bs q = cond (eqb (length bs) readerLength) (requestRefusal bs q) 11
+
+-- A refused request leaves the reader's bytes as they were. The exception leaves the refused reader: closed, and all
+-- else 0.
+abbrev pub refusedBytes : List ℕ → Request → List ℕ
+refusedBytes bs q = cond (unknownFresh bs q) (encode (empty 0 true)) bs
+
+-- the room as lent: none for a fresh request
+abbrev pub lentRoom : Request → List ℕ
+lentRoom (aFresh n) = []
+lentRoom (aCall c) = roomOf c
+
+-- Along a list, every answer is that refusal, and a refused request leaves every byte of its room and, but for the
+-- exception, of the reader.
+unfoldable pub Kept : List ℕ → List Request → Type 0
 Kept bs [] = Unit {0}
-Kept bs (c ∷ cs) =
-    (serveLent bs c .answer ≡ lentRefusal bs c)
-    × (((serveLent bs c .answer ≡ 0 → ⊥) → serveLent bs c ≡ lent (lentRefusal bs c) bs (roomOf c))
-    × Kept (serveLent bs c .reader) cs)
+Kept bs (q ∷ qs) =
+    (served bs q .answer ≡ lentRefusal bs q)
+    × (((served bs q .answer ≡ 0 → ⊥) → served bs q ≡ lent (lentRefusal bs q) (refusedBytes bs q) (lentRoom q))
+    × Kept (served bs q .reader) qs)
 
-pub record Refusals (bs : List ℕ) (cs : List Call) : Type 0 where
-  pub kept : Kept bs cs
-  -- the bytes after a list are those after its accepted calls alone
-  pub accepted : finalBytes bs cs ≡ finalBytes bs (acceptedCalls bs cs)
+pub record Refusals (bs : List ℕ) (qs : List Request) : Type 0 where
+  pub kept : Kept bs qs
+  -- Every request that is neither accepted nor the exception can be left out: the bytes after the list are the same.
+  pub writing : finalBytes bs qs ≡ finalBytes bs (writingRequests bs qs)
 
 abbrev pub LentDemand1 : Type 0
-LentDemand1 = (bs : List ℕ) (cs : List Call) → Refusals bs cs
+LentDemand1 = (bs : List ℕ) (qs : List Request) → Refusals bs qs
 
 -- ---- demand 3: any list of calls on the bytes in which a fresh reader was laid
 
@@ -50,8 +67,8 @@ pub record LentAgrees (n : ℕ) (bs : List ℕ) (cs : List Call) : Type 0 where
   -- the bytes handed out are the joined frames of the reading (the closing reading, if a close was accepted)
   pub handed : lentOut (formatOf n) start (freshBytes n bs) cs ≡ joined (readingAfter n cs .events)
   -- the reader's bytes are those of the reader of `Demand3`, whose numbers are the reading's
-  pub reader : finalBytes (freshBytes n bs) cs ≡ encode (readerAfter n cs)
-  pub numbers : decode (finalBytes (freshBytes n bs) cs) ≡ readerAfter n cs
+  pub reader : finalBytes (freshBytes n bs) (map aCall cs) ≡ encode (readerAfter n cs)
+  pub numbers : decode (finalBytes (freshBytes n bs) (map aCall cs)) ≡ readerAfter n cs
 
 abbrev pub LentDemand3 : Type 0
 LentDemand3 = (n : ℕ) (bs : List ℕ) (cs : List Call) → T (known (formatOf n)) → length bs ≡ readerLength → LentAgrees n bs cs

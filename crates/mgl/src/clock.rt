@@ -4,10 +4,10 @@ use content::ClockReading;
 use content::Refusal;
 ghost use mathlib.Core.Path.{_≡_};
 ghost use Rattle.content.specs.Shared.{clockAnswer};
-ghost use Rattle.mgl.specs.Clock.{clockOf};
+ghost use Rattle.mgl.specs.Clock.{mglClockOf};
 
 pub fn read_clock(s: &[u8]) -> ClockReading
-    ensures { λ r. ⌜ clockAnswer r ≡ clockOf (now (s .entry)) ⌝ }
+    ensures { λ r. ⌜ clockAnswer r ≡ mglClockOf (now (s .entry)) ⌝ }
 {
     if !content::is_frame(1, s) {
         return ClockReading::Refused(Refusal::NotOneFrame);
@@ -23,5 +23,5 @@ pub fn read_clock(s: &[u8]) -> ClockReading
         minute: numbers::byte_at(s, 8, 25),
         second: numbers::byte_at(s, 8, 26),
     };
-    ClockReading::Read(calendar::binary_clock(t, 2000, 2099))
+    ClockReading::Read(calendar::binary_clock(t, 2000, 99))
 }

@@ -5,8 +5,9 @@ use mathlib.Core.List.{List, [], _∷_}
 use lib.Dec.{eqb}
 use lib.ListN.{length, getD, take, drop}
 use Rattle.calendar.specs.declared.DateTime.{DateTime}
+use Rattle.calendar.specs.declared.Clock.{Clock}
 use Rattle.calendar.specs.declared.Clock.the-variants.{Unset}
-use Rattle.calendar.specs.Clocks as calendar
+use Rattle.calendar.specs.Clocks.{ClockValues, clockValues, clockOf}
 use Rattle.content.specs.Answer.{Answer, given, refused, unless, refusalNumber}
 use Rattle.framing.specs.Format.{nmea}
 use Rattle.content.specs.Body.{bodyOf}
@@ -44,8 +45,8 @@ unfoldable pub twoAt : List ℕ → ℕ → ℕ
 twoAt s i = (getD s i 0 - 0x30) * 10 + (getD s (i + 1) 0 - 0x30)
 
 -- the hundredths are dropped
-abbrev pub dateTime : List ℕ → List ℕ → DateTime
-dateTime time date = record {
+abbrev pub rmcDateTime : List ℕ → List ℕ → DateTime
+rmcDateTime time date = record {
   hour = twoAt time 0;
   minute = twoAt time 2;
   second = twoAt time 4;
@@ -54,15 +55,20 @@ dateTime time date = record {
   year = twoAt date 4;
 }
 
--- an empty time or date is unset, whatever the other is; else both are in form, or 9. The year is 2000 + yy.
-unfoldable pub fieldsClock : List ℕ → List ℕ → Answer calendar.ClockValues
-fieldsClock time date =
-    cond (eqb (length time) 0 || eqb (length date) 0) (given (calendar.clockValues Unset))
-    (unless noClock (isTime time && isDate date) 9
-    (given (calendar.clockValues (calendar.clockOf (dateTime time date) 2000 2099))))
+-- the year is 2000 + its two digits, and never wrong: no two digits are over 99
+abbrev pub rmcClock : DateTime → Clock
+rmcClock t = clockOf t 2000 99
 
-unfoldable pub clockOf : List ℕ → Answer calendar.ClockValues
-clockOf s = inRmc noClock s (fieldsClock (fieldIn s 1) (fieldIn s 9))
+-- an empty time or date is unset, whatever the other is; else both are in form, or 9
+unfoldable pub fieldsClock : List ℕ → List ℕ → Answer ClockValues
+fieldsClock time date =
+    cond (eqb (length time) 0 || eqb (length date) 0) (given (clockValues Unset))
+    (unless noClock (isTime time && isDate date) 9
+    (given (clockValues (rmcClock (rmcDateTime time date)))))
+
+-- the clock of a sentence
+unfoldable pub rmcClockOf : List ℕ → Answer ClockValues
+rmcClockOf s = inRmc noClock s (fieldsClock (fieldIn s 1) (fieldIn s 9))
 
 -- ---- the position: latitude and its hemisphere are fields 3 and 4, longitude and its hemisphere 5 and 6
 

@@ -14,7 +14,7 @@ ghost use lib.ListN.{length, take};
 ghost use Rattle.content.specs.Shared.{judgedNumber, clockAnswer, positionAnswer};
 ghost use Rattle.sentence.specs.Digits.{allDigits};
 ghost use Rattle.sentence.specs.Judge.{refusalOf};
-ghost use Rattle.nmea.specs.Rmc.{tag, isTime, isDate, twoAt, fieldsClock, clockOf, bodyPosition, positionOf, statusAnswer, fieldStatus, statusOf};
+ghost use Rattle.nmea.specs.Rmc.{tag, isTime, isDate, twoAt, fieldsClock, rmcClockOf, bodyPosition, positionOf, statusAnswer, fieldStatus, statusOf};
 
 // What the receiver says of its data: A is valid, V is a navigation receiver warning.
 pub enum Status {
@@ -103,11 +103,11 @@ fn clock_of(time: &[u8], date: &[u8]) -> ClockReading
         minute: two_at(time, 2),
         second: two_at(time, 4),
     };
-    ClockReading::Read(calendar::clock_of(t, 2000, 2099))
+    ClockReading::Read(calendar::clock_of(t, 2000, 99))
 }
 
 pub fn read_clock(s: &[u8]) -> ClockReading
-    ensures { λ r. ⌜ clockAnswer r ≡ clockOf (now (s .entry)) ⌝ }
+    ensures { λ r. ⌜ clockAnswer r ≡ rmcClockOf (now (s .entry)) ⌝ }
 {
     let judged = judge(s);
     if let Judged::Refused(r) = judged {

@@ -5,6 +5,7 @@ use lib.ListN.{getD}
 use Rattle.numbers.specs.Low.{low}
 use Rattle.framing.specs.Format.{onflight}
 use Rattle.calendar.specs.declared.DateTime.{DateTime}
+use Rattle.calendar.specs.declared.Clock.{Clock}
 use Rattle.calendar.specs.Clocks.{ClockValues, clockValues, binaryClockOf}
 use Rattle.content.specs.Answer.{Answer, given, unless}
 use Rattle.content.specs.Body.{isFrame}
@@ -29,8 +30,8 @@ elapsedOf a b =
     (given (elapsed (bootTime a) (bootTime b))))
 
 -- bytes 41 to 46 are year, month, day, hour, minute and second
-abbrev pub dateTime : List ℕ → DateTime
-dateTime s = record {
+abbrev pub onflightDateTime : List ℕ → DateTime
+onflightDateTime s = record {
   year = getD s 41 0;
   month = getD s 42 0;
   day = getD s 43 0;
@@ -39,6 +40,10 @@ dateTime s = record {
   second = getD s 46 0;
 }
 
--- the year is 1970 + its byte
-unfoldable pub clockOf : List ℕ → Answer ClockValues
-clockOf s = unless noClock (isFrame onflight s) 7 (given (clockValues (binaryClockOf (dateTime s) 1970 2225)))
+-- the year is 1970 + its byte, and never wrong: no byte is over 255
+abbrev pub onflightClock : DateTime → Clock
+onflightClock t = binaryClockOf t 1970 255
+
+-- the clock of a frame
+unfoldable pub onflightClockOf : List ℕ → Answer ClockValues
+onflightClockOf s = unless noClock (isFrame onflight s) 7 (given (clockValues (onflightClock (onflightDateTime s))))

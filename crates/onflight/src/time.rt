@@ -5,7 +5,7 @@ use content::NumberReading;
 use content::Refusal;
 ghost use mathlib.Core.Path.{_≡_};
 ghost use Rattle.content.specs.Shared.{clockAnswer, numberAnswer};
-ghost use Rattle.onflight.specs.Time.{bootOf, elapsedOf, clockOf};
+ghost use Rattle.onflight.specs.Time.{bootOf, elapsedOf, onflightClockOf};
 
 // Milliseconds since boot, which roll over at 2 ^ 32.
 pub fn read_boot_time(s: &[u8]) -> NumberReading
@@ -34,7 +34,7 @@ pub fn read_elapsed(a: &[u8], b: &[u8]) -> NumberReading
 
 // The clock, in six bytes from 41 on; the year counts from 1970.
 pub fn read_clock(s: &[u8]) -> ClockReading
-    ensures { λ r. ⌜ clockAnswer r ≡ clockOf (now (s .entry)) ⌝ }
+    ensures { λ r. ⌜ clockAnswer r ≡ onflightClockOf (now (s .entry)) ⌝ }
 {
     if !content::is_frame(2, s) {
         return ClockReading::Refused(Refusal::NotOneFrame);
@@ -47,5 +47,5 @@ pub fn read_clock(s: &[u8]) -> ClockReading
         minute: numbers::byte_at(s, 45, 0),
         second: numbers::byte_at(s, 46, 0),
     };
-    ClockReading::Read(calendar::binary_clock(t, 1970, 2225))
+    ClockReading::Read(calendar::binary_clock(t, 1970, 255))
 }

@@ -1,4 +1,4 @@
--- A ratio is rounded once, and is exact where the divisor divides.
+-- A ratio is rounded once, and is exact where the divisor divides (specs/Meaning.antt).
 -- Assumes nothing.
 use Prim.Native.Nat.{ℕ, zero, suc, _*_, _^_, _<_, _≤_}
 use mathlib.Core.Path.{_≡_, refl, sym, ap, _∙_}
@@ -13,12 +13,10 @@ use lib.Ieee.Fits.{up-pos, down-pos}
 use lib.Ieee.Exact.{HasValue}
 use lib.Ieee.Back.{round-whole}
 use lib.Ieee.Scale.{round-same}
-use mir.Syntax.{w16}
-use mir.Val.{SFits}
 use Rattle.onflight_sensors.specs.Ratio.{ratio}
+use Rattle.onflight_sensors.specs.Meaning.{Converted, RoundedOnce, Exact, ReadingsExact}
 
--- a whole number up to 2 ^ 53 is converted exactly
-pub converted : (z : ℤ) → natAbs z ≤ 2 ^ 53 → HasValue (ofInt binary64 z) (not (nonNeg z)) (natAbs z) 1
+pub converted : Converted
 unfolding ofInt
 converted (pos n) h = round-whole binary64 false n h
 converted (negsuc n) h = round-whole binary64 true (suc n) h
@@ -43,9 +41,7 @@ divided f (fin t m e) (fin u (suc n) g) s a b p v w =
     rw (eqb·suc-zero n)
     (ap (λ (k : Bool). round f k num den) (same-sign (v .0) (w .0)) ∙ round-same f s num den a b side p same)
 
--- one rounding of the exact quotient
-pub rounded-once : (z : ℤ) (d : ℕ) → 0 < d → d ≤ 2 ^ 53 → natAbs z ≤ 2 ^ 53
-    → ratio z d ≡ round binary64 (not (nonNeg z)) (natAbs z) d
+pub rounded-once : RoundedOnce
 unfolding ratio
 rounded-once z d p hd hz = divided binary64 _ _ (not (nonNeg z)) (natAbs z) d p (converted z hz) (converted (pos d) hd)
 
@@ -53,8 +49,7 @@ below-zero : (m d : ℕ) → 0 < m → 0 < d → d ≤ 2 ^ 53 → m ≤ 2 ^ 53 �
 below-zero zero d q p hd h = absurd (lt-irrefl 0 q)
 below-zero (suc m) d q p hd h = rounded-once (negsuc m) d p hd h
 
--- exact where the divisor divides: q times d over d is q
-pub exact : (q : ℤ) (d : ℕ) → 0 < d → d ≤ 2 ^ 53 → natAbs q * d ≤ 2 ^ 53 → ratio (q *ℤ pos d) d ≡ ofInt binary64 q
+pub exact : Exact
 unfolding ofInt
 exact (pos n) d p hd h =
     rounded-once (pos (n * d)) d p hd h ∙ round-same binary64 false (n * d) d n 1 p (zero-lt-suc 0) (mul-one (n * d))
@@ -70,13 +65,8 @@ size-times (negsuc n) d = size-minus (suc n * d)
     size-minus zero = refl
     size-minus (suc m) = refl
 
--- the two readings: a voltage is a byte over 25, a load factor a signed number of 16 bits over 1000
-pub record Whole : Type 0 where
-  pub voltage : (q : ℕ) → q * 25 < 256 → ratio (pos (q * 25)) 25 ≡ ofInt binary64 (pos q)
-  pub load : (q : ℤ) → SFits w16 (q *ℤ pos 1000) → ratio (q *ℤ pos 1000) 1000 ≡ ofInt binary64 q
-
-pub whole : Whole
-whole = record {
+pub readings-exact : ReadingsExact
+readings-exact = record {
   voltage = λ q h. exact (pos q) 25 (omega arith) (omega arith) (omega arith);
   load = λ q h. exact q 1000 (omega arith) (omega arith) (omega (arith, size-times q 1000, natAbs-le (q *ℤ pos 1000) (h .sfits)));
 }

@@ -11,8 +11,8 @@ use borrow.Author.Tests.{leb-true, le-leb, eqb-true, ne-eqb}
 use Rattle.decimal.specs.Decimal.{lastDigits, digitCount, decimalText}
 use Rattle.decimal.proofs.DecimalLaws.{count-most, length-last}
 use Rattle.decimal.proofs.DigitTexts.{Digits, last-digits, text-digits, text-length}
+use Rattle.framing.specs.Nmea.{permitted}
 use Rattle.framing.specs.Format.{nmea}
-use Rattle.framing.specs.Shape.{permitted}
 use Rattle.writer.specs.Frames.{allPermitted, takes}
 use Rattle.plars.specs.declared.Setting.{Setting}
 use Rattle.plars.specs.Plars.{ruleOf, isSource}

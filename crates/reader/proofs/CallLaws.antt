@@ -19,7 +19,7 @@ use Rattle.reader.specs.declared.Outcome.{Outcome}
 use Rattle.reader.specs.declared.walk.Walked.{Walked}
 use Rattle.reader.specs.State.{sum, pendingBytes}
 use Rattle.reader.specs.Refusal.{broken, refusal}
-use Rattle.reader.specs.Calls.{Call, aPiece, aClose, bytesOf, roomOf, closes, returned, modeOf, gain, taken, refusedOf, refused, serve}
+use Rattle.reader.specs.Calls.{Call, aPiece, aClose, bytesOf, roomOf, closes, returned, modeOf, gain, taken, refusedOf, refused, serve, RoomKept}
 use Rattle.reader.specs.Private.{countsOf, renewedOf, Fits}
 use Rattle.reader.proofs.JudgeLaws.{bound-most}
 use Rattle.reader.proofs.StepLaws.{frames-most}
@@ -108,8 +108,7 @@ frames-fit r c e =
       accepts r (length (bytesOf c)) (length (roomOf c)) e .roomy,
     )
 
--- No call on any reader changes the length of its room.
-pub room-kept : (r : State) (c : Call) → length (serve r c .room) ≡ length (roomOf c)
+pub room-kept : RoomKept
 unfolding serve
 room-kept r c = go (eqb a 0) (eqb-true a 0)
   where

@@ -16,7 +16,8 @@ use Rattle.framing.specs.Frame.{front}
 use Rattle.framing.specs.Reading.{closing, framed, skipped, read, joined}
 use Rattle.framing.proofs.ReadingLaws.{read-nil, closing-rest, balance}
 use Rattle.reader.specs.declared.walk.Walked.{Walked}
-use Rattle.reader.specs.Private.{frameLength, countsOf}
+use Rattle.framing.specs.Leading.{frameLength}
+use Rattle.reader.specs.Private.{countsOf}
 use Rattle.reader.proofs.HeldLaws.{tail-part, laid-on}
 use Rattle.reader.proofs.StepLaws.{Step, frame-inside, frame-step, skip-step, close-step, frames-most}
 

@@ -12,9 +12,11 @@ use Rattle.framing.specs.declared.Scanned.{Scanned}
 use Rattle.framing.specs.declared.Scanned.the-variants.{Whole, Partial, Broken}
 use Rattle.framing.specs.declared.Found.{Found}
 use Rattle.framing.specs.declared.Found.the-variants.{Frame, Start, Neither}
-use Rattle.framing.specs.Format.{Format, mgl, onflight, nmea, unknown, pendingBound}
+use Rattle.framing.specs.declared.Layout.{Layout}
+use Rattle.framing.specs.Format.{Format, layoutOf, longest, pendingBound, good}
 use Rattle.framing.specs.Shape.{scan}
-use Rattle.framing.specs.Frame.{good, frontOf, front}
+use Rattle.framing.specs.Frame.{frontOf, front}
+use Rattle.framing.proofs.FormatLaws.{lawful}
 use Rattle.reader.specs.Refusal.{isStart}
 
 -- a test of a sum that does not fit, by a difference that does
@@ -28,13 +30,15 @@ by-difference l s n h = go (ltb (l - s) n) (ltb-true (l - s) n) (ltb-false (l - 
 pub passed : (l s n : ℕ) → l < s → ltb l (s + n) ≡ true
 passed l s n h = lt-ltb l (s + n) (omega arith)
 
+-- the bound from the numbers that code has of a format
+pub bound-is : (f : Format) {l : Layout} → l ≡ layoutOf f → l .longest - 1 ≡ pendingBound f
+unfolding layoutOf pendingBound
+bound-is f e = rw e
+
 -- every bound fits the held bytes
 pub bound-most : (f : Format) → pendingBound f ≤ 275
-unfolding pendingBound
-bound-most mgl = omega arith
-bound-most onflight = omega arith
-bound-most nmea = omega arith
-bound-most unknown = omega arith
+unfolding longest pendingBound
+bound-most f = omega (arith, lawful f .most)
 
 -- ---- a start, as `front` answers it
 

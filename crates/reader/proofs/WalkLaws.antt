@@ -20,7 +20,7 @@ use Rattle.framing.proofs.IdleLaws.{idle-most, idle-reads, joined-skips, framed
 use Rattle.framing.specs.declared.run.Run.{Run}
 use Rattle.framing.specs.Leading.{ledBy, leadOf}
 use Rattle.framing.proofs.LeadLaws.{oneOf, lead-one}
-use Rattle.reader.specs.Private.{frameLength, countsOf}
+use Rattle.reader.specs.Private.{countsOf}
 use Rattle.reader.proofs.JudgeLaws.{startOf}
 use Rattle.reader.proofs.StepLaws.{Step, frame-inside, frame-step, skip-step, start-stops}
 
@@ -108,14 +108,6 @@ pub run-few : (f : Format) (xs : List ℕ) (most : ℕ) (r : Run) → Leads f xs
 run-few f xs most r l = (omega (arith, l .number, l .begins .few, l .begins .width), l .begins .inside)
 
 -- the first frame alone
-pub one-length : (f : Format) (xs : List ℕ) → leadOf f 1 xs .bytes ≡ frameLength (front f xs)
-one-length f xs = ap (λ (r : Run). r .bytes) (lead-one f xs) ∙ go (front f xs)
-  where
-    go : (o : Found) → oneOf o .bytes ≡ frameLength o
-    go (Frame n) = refl
-    go Start = refl
-    go (Neither r) = refl
-
 pub one-waits : (f : Format) (xs : List ℕ) → leadOf f 1 xs .waits ≡ startOf (front f xs)
 one-waits f xs = ap (λ (r : Run). r .waits) (lead-one f xs) ∙ go (front f xs)
   where

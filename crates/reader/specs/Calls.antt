@@ -1,5 +1,6 @@
 -- What a piece and a close give (docs/FORMATS.md, "Readers").
 use Prim.Native.Nat.{ℕ, _+_}
+use mathlib.Core.Path.{_≡_}
 use mathlib.Core.Bool.{Bool, true, false, cond}
 use mathlib.Core.List.{List, [], _++_}
 use lib.Dec.{eqb}
@@ -75,3 +76,7 @@ unfoldable pub serve : State → Call → Returned
 serve r c =
     let a = refusal r (length (bytesOf c)) (length (roomOf c)) in
     cond (eqb a 0) (taken r (closes c) (gain r c) (roomOf c)) (refused a r (roomOf c))
+
+-- No call changes the length of its room: the frames that it hands out always fit. (`room-kept`, proofs/CallLaws.antt)
+abbrev pub RoomKept : Type 0
+RoomKept = (r : State) (c : Call) → length (serve r c .room) ≡ length (roomOf c)

@@ -4,8 +4,6 @@ use mathlib.Core.Path.{_≡_}
 use mathlib.Core.Bool.{Bool, cond}
 use mathlib.Core.List.{List}
 use lib.ListN.{length, take, drop}
-use Rattle.framing.specs.declared.Found.{Found}
-use Rattle.framing.specs.declared.Found.the-variants.{Frame, Start, Neither}
 use Rattle.framing.specs.Format.{Format, pendingBound}
 use Rattle.framing.specs.Reading.{Reading, frameCount, framedCount, skippedCount}
 use Rattle.reader.specs.declared.Reader.{Reader as State}
@@ -16,12 +14,6 @@ use Rattle.reader.specs.State.{padded}
 -- the first refusal in the order 11, 2, 1, 3, 4, or 0
 abbrev pub firstOf : Bool → Bool → Bool → Bool → Bool → ℕ
 firstOf unsound closed long over small = cond unsound 11 (cond closed 2 (cond long 1 (cond over 3 (cond small 4 0))))
-
--- the length of the frame that some bytes begin with, or 0
-abbrev pub frameLength : Found → ℕ
-frameLength (Frame n) = n
-frameLength Start = 0
-frameLength (Neither r) = 0
 
 -- the numbers of a reading
 abbrev pub countsOf : Reading → Walked

@@ -15,6 +15,13 @@ isStart (Whole n) = false
 isStart Partial = true
 isStart (Broken r) = false
 
+-- the longest piece, and the most bytes that a reader counts
+abbrev pub longestPiece : ℕ
+longestPiece = 4096
+
+abbrev pub mostBytes : ℕ
+mostBytes = 4294967295
+
 -- Refusal 11: "a reader with an unknown format, pending over its bound, pending bytes neither empty nor a proper start of a shape,
 -- closed with bytes pending, or the three numbers together over 4,294,967,295".
 unfoldable pub broken : State → Bool
@@ -23,13 +30,13 @@ broken r =
     || (ltb (pendingBound (formatOf (r .format))) (r .pending)
     || (not (isStart (scan (formatOf (r .format)) (pendingBytes r)))
     || (r .closed && ltb 0 (r .pending)
-    || ltb 4294967295 (sum r))))
+    || ltb mostBytes (sum r))))
 
 -- The refusal of a call that brings n bytes and lends so much room, or 0. "Order for readers: 11, 2, 1, 3, 4."
 unfoldable pub refusal : State → ℕ → ℕ → ℕ
 refusal r n room =
     cond (broken r) 11
     (cond (r .closed) 2
-    (cond (ltb 4096 n) 1
-    (cond (ltb 4294967295 (sum r + n)) 3
+    (cond (ltb longestPiece n) 1
+    (cond (ltb mostBytes (sum r + n)) 3
     (cond (ltb room (r .pending + n)) 4 0))))

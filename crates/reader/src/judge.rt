@@ -14,12 +14,11 @@ ghost use Rattle.reader.specs.Private.{firstOf};
 pub(crate) fn pending_bound(format: u32) -> u32
     ensures { λ n. ⌜ n ≡ pendingBound (formatOf format) ⌝ }
 {
-    match format {
-        1 => Reader::MGL_PENDING,
-        2 => Reader::ONFLIGHT_PENDING,
-        3 => Reader::NMEA_PENDING,
-        _ => 0,
+    let l = framing::layout_of(format);
+    if l.longest == 0 {
+        return 0;
     }
+    l.longest - 1
 }
 
 // Whether s is nothing or a proper start of a shape.

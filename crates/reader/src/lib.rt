@@ -46,11 +46,11 @@ impl Reader {
     pub const MOST_BYTES: u64 = 4294967295;
 
     // The longest frame of each format.
-    pub const MGL_LONGEST: u32 = 276;
+    pub const MGL_LONGEST: u32 = framing::mgl::LONGEST;
 
-    pub const ONFLIGHT_LONGEST: u32 = 158;
+    pub const ONFLIGHT_LONGEST: u32 = framing::onflight::LONGEST;
 
-    pub const NMEA_LONGEST: u32 = 82;
+    pub const NMEA_LONGEST: u32 = framing::nmea::LONGEST;
 
     // How many bytes of each format can be pending: one less than its longest frame.
     pub const MGL_PENDING: u32 = Reader::MGL_LONGEST - 1;

@@ -10,7 +10,7 @@ ghost use Rattle.framing.specs.Format.{formatOf};
 ghost use Rattle.framing.specs.Frame.{front};
 ghost use Rattle.framing.specs.Reading.{ongoing, closing, read, joined};
 ghost use Rattle.reader.specs.State.{padded};
-ghost use Rattle.reader.specs.Private.{Joined, frameLength, countsOf};
+ghost use Rattle.reader.specs.Private.{Joined, countsOf};
 
 // The numbers of a reading: the bytes framed, those skipped, and the frames.
 pub(crate) struct Walked {
@@ -90,14 +90,6 @@ pub(crate) fn resume(
     }
 }
 
-// The length of the frame that s begins with, or 0.
-fn frame_length(format: u32, s: &[u8]) -> usize
-    ensures { λ n. ⌜ n ≡ frameLength (front (formatOf format) (now (s .entry))) ⌝ }
-{
-    let found = run::leading(format, s, 1);
-    found.bytes
-}
-
 // Lays the frames of the closing reading of s in room: where no frame stands the byte is skipped, and the shorter rest is read again.
 pub(crate) fn finish(format: u32, s: &[u8], room: &mut [u8]) -> Walked
     requires { ⌜ length (now s) ≤ length (now room) ⌝ }
@@ -111,7 +103,7 @@ pub(crate) fn finish(format: u32, s: &[u8], room: &mut [u8]) -> Walked
             frames: 0,
         };
     }
-    let n = frame_length(format, s);
+    let n = run::frame_length(format, s);
     if n == 0 {
         let w = finish(format, &s[1..], room);
         return Walked {

@@ -1,7 +1,7 @@
 -- A binary frame taken apart and written again is the same.
 -- Assumes nothing.
 use Prim.Native.Nat.{ℕ, zero, suc, _+_, _-_, _%_, _≤_, _<_}
-use mathlib.Core.Path.{_≡_, refl, sym, ap, ap₂, _∙_}
+use mathlib.Core.Path.{_≡_, refl, sym, ap, _∙_}
 use mathlib.Core.Bool.{true}
 use mathlib.Core.List.{List, [], _∷_, _++_}
 use native.Mathlib.Omega.{arith}
@@ -13,16 +13,20 @@ use Rattle.numbers.specs.Low.{low, lowBytes}
 use Rattle.numbers.proofs.LowBytes.{bytes-of-low}
 use Rattle.checksum.specs.Crc.{crcOf}
 use Rattle.checksum.specs.Fletcher.{fletcherOf}
-use Rattle.framing.specs.Format.{mgl, onflight, shortest}
-use Rattle.framing.specs.Shape.{lengthOf, Bytes}
-use Rattle.framing.specs.Frame.{part, good, IsFrame}
+use Rattle.framing.specs.Rules.{part}
+use Rattle.framing.specs.Mgl.{lengthOf}
+use Rattle.framing.specs.Format.{mgl, onflight, shortest, good, bodyStart, bodyEnd}
+use Rattle.framing.specs.Meaning.{Bytes}
+use Rattle.framing.specs.Frame.{IsFrame}
+use Rattle.framing.proofs.ByteLaws.{bytes-at}
 use Rattle.framing.proofs.FrameLaws.{frame-means}
-use Rattle.content.specs.Body.{isFrame, bodyStart, bodyEnd, bodyOf}
+use Rattle.content.specs.Body.{isFrame, bodyOf}
 use Rattle.content.proofs.BodyLaws.{frame-test, frame-long, body-at}
 use Rattle.mgl.specs.declared.Header.{Header}
 use Rattle.mgl.specs.Header.{headerOf}
 use Rattle.writer.specs.Frames.{lengthByte, mglCovered, mglFrame, onflightCovered, onflightFrame}
-use Rattle.roundtrips.proofs.ShapeBack.{MglHead, mgl-head, OnflightHead, onflight-head}
+use Rattle.roundtrips.specs.Exactly.{MglShape, OnflightShape}
+use Rattle.roundtrips.proofs.ShapeBack.{mgl-head, onflight-head}
 
 -- what stands from place a on, cut at place e
 cut : (a e : ℕ) (s : List ℕ) → a ≤ e → part a e s ++ drop e s ≡ drop a s
@@ -34,11 +38,6 @@ cut a e s h =
 part-first : (a e : ℕ) (s : List ℕ) → a < e → e ≤ length s → part a e s ≡ getD s a 0 ∷ part (suc a) e s
 part-first a e s h l = let n : e - a ≡ suc (e - suc a) = omega arith in rw (n, drop-cons s a 0 (omega arith))
 
-bytes-at : (s : List ℕ) → Bytes s → (i : ℕ) → getD s i 0 ≤ 255
-bytes-at [] b i = omega arith
-bytes-at (x ∷ s) b zero = b .0
-bytes-at (x ∷ s) b (suc i) = bytes-at s (b .1) i
-
 -- ---- MGL
 
 -- the length is sent as it was
@@ -47,7 +46,7 @@ length-again zero n h e = omega arith
 length-again (suc l) n h e = omega arith
 
 -- the four bytes of the header
-abbrev headerAt : List ℕ → Header
+abbrev pub headerAt : List ℕ → Header
 headerAt s = record { kind = getD s 4 0; rate = getD s 5 0; count = getD s 6 0; version = getD s 7 0 }
 
 covered-again : (e : ℕ) (s : List ℕ) → 8 ≤ e → e ≤ length s → mglCovered (headerAt s) (part 8 e s) ≡ part 4 e s
@@ -65,7 +64,7 @@ crc-again s b l g =
     ∙ bytes-of-low 4 s e (omega arith) (λ i h. bytes-at s b (e + i))
     ∙ take-all 4 (drop e s) (rw (length-drop e s) (omega arith))
 
-mgl-again : (s : List ℕ) → Bytes s → 21 ≤ length s → T (good mgl s) → MglHead s → mglFrame (headerAt s) (part 8 (length s - 4) s) ≡ s
+mgl-again : (s : List ℕ) → Bytes s → 21 ≤ length s → T (good mgl s) → MglShape s → mglFrame (headerAt s) (part 8 (length s - 4) s) ≡ s
 unfolding mglFrame lengthByte
 mgl-again s b l g w =
     let e = length s - 4 in
@@ -80,16 +79,19 @@ header-is : (s : List ℕ) → isFrame mgl s ≡ true → headerOf s .value ≡ 
 unfolding headerOf
 header-is s t = rw t
 
-pub mgl-rewritten : (s : List ℕ) → Bytes s → IsFrame mgl s → mglFrame (headerOf s .value) (bodyOf mgl s) ≡ s
+pub mgl-laid : (s : List ℕ) → Bytes s → IsFrame mgl s → mglFrame (headerAt s) (bodyOf mgl s) ≡ s
 unfolding bodyStart bodyEnd shortest
-mgl-rewritten s b h =
+mgl-laid s b h =
     let m = frame-means mgl s .0 h in
     let t = frame-test mgl s .1 h in
-    ap₂ mglFrame (header-is s t) (sym (body-at mgl s t refl refl)) ∙ mgl-again s b (frame-long mgl s t) (m .1) (mgl-head s (m .0))
+    ap (mglFrame (headerAt s)) (sym (body-at mgl s t refl refl)) ∙ mgl-again s b (frame-long mgl s t) (m .1) (mgl-head s (m .0))
+
+pub mgl-rewritten : (s : List ℕ) → Bytes s → IsFrame mgl s → mglFrame (headerOf s .value) (bodyOf mgl s) ≡ s
+mgl-rewritten s b h = ap (λ (x : Header). mglFrame x (bodyOf mgl s)) (header-is s (frame-test mgl s .1 h)) ∙ mgl-laid s b h
 
 -- ---- OnFlight
 
-payload-covered : (n : ℕ) (s : List ℕ) → OnflightHead s → onflightCovered (take n (drop 4 s)) ≡ take (suc (suc (suc (suc n)))) s
+payload-covered : (n : ℕ) (s : List ℕ) → OnflightShape s → onflightCovered (take n (drop 4 s)) ≡ take (suc (suc (suc (suc n)))) s
 unfolding onflightCovered
 payload-covered n s w = rw (w .same)
 
@@ -113,7 +115,7 @@ fletcher-again s h g =
     let q : c .weighted ≡ getD s (length s - 1) 0 = eqb→eq (c .weighted) (getD s (length s - 1) 0) (and-r t u g) in
     cc (last-two s h)
 
-onflight-again : (s : List ℕ) → T (good onflight s) → OnflightHead s → onflightFrame (part 4 (length s - 2) s) ≡ s
+onflight-again : (s : List ℕ) → T (good onflight s) → OnflightShape s → onflightFrame (part 4 (length s - 2) s) ≡ s
 unfolding onflightFrame
 onflight-again s g w =
     let e = length s - 2 in

@@ -16,19 +16,21 @@ use Rattle.numbers.proofs.LowBytes.{length-lowBytes, low-lowBytes}
 use Rattle.checksum.specs.Crc.{crcOf}
 use Rattle.checksum.specs.Fletcher.{fletcherOf}
 use Rattle.framing.specs.declared.Scanned.the-variants.{Whole}
-use Rattle.framing.specs.Format.{Format, mgl, onflight}
-use Rattle.framing.specs.Shape.{lengthOf, mglNext, onflightNext, next, scanFrom, scan, IsShape, Bytes}
-use Rattle.framing.specs.Frame.{good}
-use Rattle.framing.proofs.ShapeLaws.{CountsFrom, counted, mgl-counts, onflight-counts}
-use Rattle.framing.proofs.HeadLaws.{length-itself}
+use Rattle.framing.specs.Mgl.{lengthOf, mglNext}
+use Rattle.framing.specs.Onflight.{onflightNext}
+use Rattle.framing.specs.Format.{Format, mgl, onflight, next, good}
+use Rattle.framing.specs.Shape.{scanFrom, scan}
+use Rattle.framing.specs.Meaning.{IsShape, Bytes}
+use Rattle.framing.proofs.ShapeLaws.{CountsFrom, counted}
+use Rattle.framing.proofs.MglLaws.{mgl-counts, length-itself}
+use Rattle.framing.proofs.OnflightLaws.{onflight-counts}
 use Rattle.mgl.specs.declared.Header.{Header}
 use Rattle.writer.specs.Frames.{takes, lengthByte, mglCovered, mglFrame, onflightCovered, onflightFrame}
-use Rattle.writer.proofs.WriterLaws.{taken-long}
 use Rattle.roundtrips.proofs.Bounds.{crc-below}
 use Rattle.roundtrips.proofs.PartLaws.{behind, between, from-end}
 
 -- a shape that counts, with exactly so many bytes behind its head
-filled : (f : Format) → CountsFrom f 4 → (m : ℕ) (xs : List ℕ) → 4 < m → m ≡ 4 + length xs → scanFrom f 4 m xs ≡ Whole m
+pub filled : (f : Format) → CountsFrom f 4 → (m : ℕ) (xs : List ℕ) → 4 < m → m ≡ 4 + length xs → scanFrom f 4 m xs ≡ Whole m
 filled f c m xs h e = counted f 4 c 4 m xs (omega arith) h ∙ rw (le-leb m (4 + length xs) (omega arith))
 
 -- ---- MGL
@@ -49,11 +51,10 @@ module _ (h : Header) (body : List ℕ) where
   unfolding mglCovered
   covered-length = omega arith
 
-  pub mgl-shape : takes mgl body ≡ true → IsShape mgl (mglFrame h body)
+  pub mgl-shape : 9 ≤ length body → length body ≤ 264 → IsShape mgl (mglFrame h body)
   unfolding mglFrame lengthByte scan scanFrom next mglNext
-  mgl-shape t =
+  mgl-shape p q =
       let y = lowBytes 4 (crcOf (mglCovered h body)) in
-      let n = taken-long body t in
       let l = length-said (length body - 8) (omega arith) (omega arith) in
       let m : lengthOf ((length body - 8) % 256) + 20 ≡ 4 + length (mglCovered h body ++ y) =
       omega (arith, covered-length, length-append (mglCovered h body) y, length-lowBytes 4 (crcOf (mglCovered h body)))

@@ -7,7 +7,7 @@ use lib.Bits.{bitXor, xor-lt}
 use lib.Dec.{lit<}
 use Rattle.checksum.specs.Crc.{ifSet, bitStep, bitSteps, byteStep, crcOf}
 use Rattle.checksum.specs.Xor.{xorOf}
-use Rattle.framing.specs.Shape.{IsByte, Bytes}
+use Rattle.framing.specs.Meaning.{IsByte, Bytes}
 
 -- a fold that keeps below a bound
 fold-below : (N : ℕ) (f : ℕ → ℕ → ℕ) → ((x b : ℕ) → x < N → IsByte b → f x b < N) → (x : ℕ) (s : List ℕ) → x < N → Bytes s → foldl f x s < N

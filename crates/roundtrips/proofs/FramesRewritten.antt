@@ -5,7 +5,7 @@ use mathlib.Core.Path.{_≡_, _∙_}
 use mathlib.Core.Bool.{true}
 use mathlib.Core.List.{List}
 use Rattle.framing.specs.Format.{Format, mgl, onflight, nmea, unknown}
-use Rattle.framing.specs.Shape.{Bytes}
+use Rattle.framing.specs.Meaning.{Bytes}
 use Rattle.framing.specs.Frame.{IsFrame}
 use Rattle.content.specs.Body.{bodyOf}
 use Rattle.writer.specs.Frames.{takes}
@@ -15,7 +15,7 @@ use Rattle.roundtrips.proofs.MadeLaws.{made-is}
 use Rattle.roundtrips.proofs.NmeaRewritten.{nmea-rewritten}
 
 -- the frame of what a frame holds, whatever the room
-rewritten : (f : Format) (s : List ℕ) → Bytes s → IsFrame f s → takes f (bodyOf f s) ≡ true → frameOf f (contentOf f s) ≡ s
+pub rewritten : (f : Format) (s : List ℕ) → Bytes s → IsFrame f s → takes f (bodyOf f s) ≡ true → frameOf f (contentOf f s) ≡ s
 unfolding takes
 rewritten mgl s b h t = mgl-rewritten s b h
 rewritten onflight s b h t = onflight-rewritten s h

@@ -7,8 +7,8 @@ use native.Mathlib.Omega.{arith}
 use lib.Dec.{eqb, leb}
 use lib.ListN.{length}
 use borrow.Author.Tests.{le-leb, eqb-true, eq-eqb}
-use Rattle.framing.specs.Format.{mgl, onflight, nmea, unknown, shortest, longest}
-use Rattle.content.specs.Body.{bodyStart, bodyEnd, bodyOf}
+use Rattle.framing.specs.Format.{mgl, onflight, nmea, unknown, shortest, longest, bodyStart, bodyEnd}
+use Rattle.content.specs.Body.{bodyOf}
 use Rattle.content.proofs.BodyLaws.{frame-test, frame-long, frame-short, onflight-length, body-length}
 use Rattle.writer.specs.Frames.{takes}
 use Rattle.roundtrips.specs.FrameTrips.{FramesTaken}

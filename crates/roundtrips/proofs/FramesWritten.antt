@@ -4,16 +4,18 @@ use Prim.Native.Nat.{ℕ}
 use mathlib.Core.Path.{_≡_, refl, sym, _∙_, subst}
 use mathlib.Core.Bool.{true}
 use mathlib.Core.List.{List, [], _∷_, _++_}
+use native.Mathlib.Omega.{arith}
 use lib.ListN.{length}
 use Rattle.numbers.proofs.LowBytes.{length-lowBytes}
-use Rattle.framing.specs.Format.{Format, mgl, onflight, nmea, unknown}
+use Rattle.framing.specs.Format.{Format, mgl, onflight, nmea, unknown, bodyStart, bodyEnd}
 use Rattle.framing.specs.Frame.{IsFrame}
 use Rattle.framing.proofs.FrameLaws.{frame-means}
-use Rattle.content.specs.Body.{isFrame, bodyStart, bodyEnd, bodyOf}
+use Rattle.content.specs.Body.{isFrame, bodyOf}
 use Rattle.content.proofs.AnswerLaws.{passes}
 use Rattle.content.proofs.BodyLaws.{frame-test, body-at}
 use Rattle.mgl.specs.Header.{headerOf}
 use Rattle.writer.specs.Frames.{takes, mglCovered, mglFrame, onflightCovered, onflightFrame, nmeaFrame}
+use Rattle.writer.proofs.WriterLaws.{taken-long}
 use Rattle.roundtrips.specs.FrameTrips.{Content, IsContent, frameOf, ReadsHeader, ReadsBack, WrittenThenRead}
 use Rattle.roundtrips.proofs.BinaryWritten.{mgl-shape, mgl-good, onflight-shape, onflight-good}
 use Rattle.roundtrips.proofs.MadeLaws.{made-is}
@@ -28,7 +30,9 @@ nmea-frame body t = let b = taken-body body t in frame-means nmea (nmeaFrame bod
 -- What a writer takes, it makes one frame of.
 pub frame-of-taken : (f : Format) (c : Content) → IsContent c → takes f (c .body) ≡ true → IsFrame f (frameOf f c)
 unfolding takes mglCovered
-frame-of-taken mgl c b t = frame-means mgl _ .1 (mgl-shape (c .header) (c .body) t, mgl-good (c .header) (c .body) b)
+frame-of-taken mgl c b t =
+    let n = taken-long (c .body) t in
+    frame-means mgl _ .1 (mgl-shape (c .header) (c .body) (omega arith) (omega arith), mgl-good (c .header) (c .body) b)
 frame-of-taken onflight c b t = frame-means onflight _ .1 (onflight-shape (c .body) t, onflight-good (c .body))
 frame-of-taken nmea c b t = nmea-frame (c .body) t
 frame-of-taken unknown c b t = cc

@@ -6,8 +6,7 @@ use native.Mathlib.Decide.{decLe}
 use native.Mathlib.Omega.{arith}
 use lib.Dec.{T, leb, leb→le}
 use borrow.Author.Tests.{le-leb, lt-leb}
-use Rattle.framing.specs.Shape.{hexDigit}
-use Rattle.framing.specs.Frame.{hexValue}
+use Rattle.framing.specs.Nmea.{hexDigit, hexValue}
 use Rattle.writer.specs.Frames.{hexDigitOf}
 use mathlib.Core.Bool.{Bool, true, false, _&&_, _||_}
 use lib.Ieee.Fits.{and-l, and-r}

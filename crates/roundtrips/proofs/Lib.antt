@@ -2,13 +2,16 @@
 pub mod MadeLaws
 pub mod PartLaws
 pub mod HexLaws
+pub mod WordLaws
 pub mod Bounds
 pub mod NmeaWritten
 pub mod BinaryWritten
 pub mod FramesWritten
 pub mod ShapeBack
+pub mod ShapesProof
 pub mod NmeaRewritten
 pub mod BinaryRewritten
+pub mod ExactlyProof
 pub mod FramesRewritten
 pub mod FramesTaken
 pub mod DigitTrips

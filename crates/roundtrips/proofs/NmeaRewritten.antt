@@ -8,11 +8,12 @@ use native.Mathlib.Omega.{arith}
 use lib.Dec.{T, eqb→eq}
 use lib.ListN.{length, getD}
 use Rattle.checksum.specs.Xor.{xorOf}
-use Rattle.framing.specs.Format.{nmea}
-use Rattle.framing.specs.Shape.{hexDigit}
-use Rattle.framing.specs.Frame.{part, hexValue, good, IsFrame}
+use Rattle.framing.specs.Rules.{part}
+use Rattle.framing.specs.Nmea.{hexDigit, hexValue}
+use Rattle.framing.specs.Format.{nmea, good, bodyStart, bodyEnd}
+use Rattle.framing.specs.Frame.{IsFrame}
 use Rattle.framing.proofs.FrameLaws.{frame-means}
-use Rattle.content.specs.Body.{bodyStart, bodyEnd, bodyOf}
+use Rattle.content.specs.Body.{bodyOf}
 use Rattle.content.proofs.BodyLaws.{frame-test, body-at}
 use Rattle.writer.specs.Frames.{allPermitted, hexDigitOf, nmeaFrame}
 use Rattle.roundtrips.proofs.HexLaws.{value-below, digit-of-value}

@@ -11,9 +11,11 @@ use lib.ListN.{length, length-append}
 use borrow.Author.Tests.{leb-true, not-true, eqb-false, ne-eqb, lt-ltb}
 use Rattle.checksum.specs.Xor.{xorOf}
 use Rattle.framing.specs.declared.Scanned.the-variants.{Whole}
-use Rattle.framing.specs.Format.{nmea}
-use Rattle.framing.specs.Shape.{more, permitted, hexDigit, bodyNext, nmeaNext, next, scanFrom, scan, IsShape, Bytes}
-use Rattle.framing.specs.Frame.{good}
+use Rattle.framing.specs.Rules.{more}
+use Rattle.framing.specs.Nmea.{permitted, hexDigit, bodyNext, nmeaNext}
+use Rattle.framing.specs.Format.{nmea, next, good}
+use Rattle.framing.specs.Shape.{scanFrom, scan}
+use Rattle.framing.specs.Meaning.{IsShape, Bytes}
 use Rattle.framing.proofs.TestLaws.{true-of}
 use Rattle.writer.specs.Frames.{takes, allPermitted, hexDigitOf, nmeaFrame}
 use Rattle.roundtrips.proofs.Bounds.{xor-below}
@@ -64,7 +66,7 @@ module _ (c d : ℕ) (first : T (hexDigit c)) (second : T (hexDigit d)) where
   end-scan n h = rw (lt-ltb 0 n h, true-of (hexDigit c) first, true-of (hexDigit d) second) (ap Whole (omega arith))
 
   -- from byte n of the body on
-  body-scan : (n : ℕ) (body : List ℕ) → allPermitted body ≡ true → 0 < n + length body → n + length body ≤ 76
+  pub body-scan : (n : ℕ) (body : List ℕ) → allPermitted body ≡ true → 0 < n + length body → n + length body ≤ 76
       → scanFrom nmea (suc n) 0 (body ++ lastFive c d) ≡ Whole (n + length body + 6)
   unfolding scanFrom next nmeaNext allPermitted
   body-scan n [] p h l = end-scan n (omega arith) ∙ ap Whole (omega arith)

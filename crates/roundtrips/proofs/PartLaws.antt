@@ -6,7 +6,7 @@ use mathlib.Core.List.{List, _++_}
 use native.Mathlib.Omega.{arith}
 use lib.ListN.{length, getD, length-append}
 use lib.Seq.{take-at, drop-at, getD-append-add}
-use Rattle.framing.specs.Frame.{part}
+use Rattle.framing.specs.Rules.{part}
 
 -- the place from which e bytes are left
 pub behind : (xs y : List ℕ) (e : ℕ) → length y ≡ e → length (xs ++ y) - e ≡ length xs

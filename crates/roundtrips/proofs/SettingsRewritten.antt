@@ -113,11 +113,11 @@ body-rewritten b e =
 -- ---- and the sentence
 
 -- it writes these bytes
-record Sentence (s : List ℕ) (a : Answer Setting) : Type 0 where
-  same : nmeaFrame (settingBody (a .value)) ≡ s
-  taken : takesSetting (a .value) ≡ true
+pub record Sentence (s : List ℕ) (a : Answer Setting) : Type 0 where
+  pub same : nmeaFrame (settingBody (a .value)) ≡ s
+  pub taken : takesSetting (a .value) ≡ true
 
-sentence-rewritten : (s : List ℕ) → settingOf s .number ≡ 0 → Sentence s (settingOf s)
+pub sentence-rewritten : (s : List ℕ) → settingOf s .number ≡ 0 → Sentence s (settingOf s)
 sentence-rewritten s e =
     rw (setting-of s)
     (granted (Sentence s) noSetting (isFrame nmea s) 6 (fromFields (fields (bodyOf nmea s))) (rw (setting-of s) at e)

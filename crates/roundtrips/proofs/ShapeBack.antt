@@ -12,11 +12,19 @@ use Rattle.framing.specs.declared.Reason.{Reason}
 use Rattle.framing.specs.declared.Reason.the-variants.{StartByte, SecondByte, HeaderByte, BodyByte, BodyTooLong, Ending}
 use Rattle.framing.specs.declared.Scanned.{Scanned}
 use Rattle.framing.specs.declared.Scanned.the-variants.{Whole, Partial, Broken}
-use Rattle.framing.specs.Format.{Format, mgl, onflight, nmea}
-use Rattle.framing.specs.Shape.{Next, more, must, lengthOf, permitted, hexDigit, mglNext, onflightNext, bodyNext, nmeaNext, next, follow, scanFrom, scan, IsShape}
+use Rattle.framing.specs.Rules.{Next, more, must}
+use Rattle.framing.specs.Mgl.{lengthOf, mglNext}
+use Rattle.framing.specs.Onflight.{onflightNext}
+use Rattle.framing.specs.Nmea.{permitted, hexDigit, bodyNext, nmeaNext}
+use Rattle.framing.specs.Format.{Format, mgl, onflight, nmea, next}
+use Rattle.framing.specs.Shape.{follow, scanFrom, scan}
+use Rattle.framing.specs.Meaning.{IsShape}
 use Rattle.framing.proofs.TestLaws.{true-of}
-use Rattle.framing.proofs.ShapeLaws.{CountsFrom, counted, mgl-counts, onflight-counts}
+use Rattle.framing.proofs.ShapeLaws.{CountsFrom, counted}
+use Rattle.framing.proofs.MglLaws.{mgl-counts}
+use Rattle.framing.proofs.OnflightLaws.{onflight-counts}
 use Rattle.writer.specs.Frames.{allPermitted}
+use Rattle.roundtrips.specs.Exactly.{MglShape, OnflightShape}
 
 -- ---- a byte of a whole shape
 
@@ -56,15 +64,7 @@ counted-whole f c m j xs h e = pick (leb m (4 + length xs)) (sym (counted f 4 c 
     pick true q = cc
     pick false q = no-whole q
 
-pub record MglHead (s : List ℕ) : Type 0 where
-  pub len : ℕ
-  pub complement : ℕ
-  pub rest : List ℕ
-  pub same : s ≡ 0x05 ∷ 0x02 ∷ len ∷ complement ∷ rest
-  pub sum : len + complement ≡ 255
-  pub long : lengthOf len + 20 ≡ length s
-
-pub mgl-head : (s : List ℕ) → IsShape mgl s → MglHead s
+pub mgl-head : (s : List ℕ) → IsShape mgl s → MglShape s
 unfolding scan next mglNext
 mgl-head s e =
     let a = peel mgl 0 0 (length s) s (λ b. eqb b 0x05) (λ b. 0) StartByte (λ b. refl) e in
@@ -82,12 +82,7 @@ mgl-head s e =
       long = counted-whole mgl mgl-counts (lengthOf (l .byte) + 20) (length s) (x .rest) (omega arith) (x .onward);
     }
 
-pub record OnflightHead (s : List ℕ) : Type 0 where
-  pub rest : List ℕ
-  pub same : s ≡ 0x42 ∷ 0x46 ∷ 0x01 ∷ 0x98 ∷ rest
-  pub long : 158 ≡ length s
-
-pub onflight-head : (s : List ℕ) → IsShape onflight s → OnflightHead s
+pub onflight-head : (s : List ℕ) → IsShape onflight s → OnflightShape s
 unfolding scan next onflightNext
 onflight-head s e =
     let a = peel onflight 0 0 (length s) s (λ b. eqb b 0x42) (λ b. 0) StartByte (λ b. refl) e in

@@ -10,7 +10,8 @@ use Rattle.framing.specs.Reading.{Event, framed}
 use Rattle.reader.specs.State.{freshOf}
 use Rattle.reader.specs.Calls.{Call}
 use Rattle.claims.specs.Lists.{frameTotal}
-use Rattle.claims.specs.Demand3.{machineAfter, readingAfter, readerAfter, output, AcceptedPieces, delivery}
+use Rattle.claims.specs.Demand3.{machineAfter, readingAfter, readerAfter, output}
+use Rattle.claims.specs.Chunking.{AcceptedPieces, delivery}
 use Rattle.writer.specs.Frames.{takes}
 use Rattle.roundtrips.specs.FrameTrips.{Content, IsContent, frameOf}
 

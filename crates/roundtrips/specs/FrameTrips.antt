@@ -6,7 +6,7 @@ use mathlib.Core.List.{List, [], _∷_}
 use lib.Dec.{eqb}
 use lib.ListN.{length, take}
 use Rattle.framing.specs.Format.{Format, mgl, onflight, nmea, unknown}
-use Rattle.framing.specs.Shape.{Bytes}
+use Rattle.framing.specs.Meaning.{Bytes}
 use Rattle.framing.specs.Frame.{IsFrame}
 use Rattle.content.specs.Answer.{Answer, given}
 use Rattle.content.specs.Body.{bodyOf}

@@ -2,7 +2,7 @@
 -- Assumes nothing.
 use Prim.Native.Nat.{ℕ}
 use mathlib.Core.Path.{_≡_, refl, sym, ap, ap₂, _∙_}
-use mathlib.Core.Bool.{Bool, true, false, cond}
+use mathlib.Core.Bool.{Bool, true, false}
 use mathlib.Core.List.{List, [], _∷_}
 use native.Mathlib.Omega.{arith}
 use lib.Dec.{T, eqb, eqb→eq}
@@ -14,7 +14,7 @@ use Rattle.content.specs.declared.Refusal.{Refusal}
 use Rattle.content.specs.declared.Refusal.the-variants.{NotOneFrame, OtherMessage, OutOfForm}
 use Rattle.content.specs.declared.Judged.{Judged}
 use Rattle.content.specs.declared.Judged.the-variants.{Done, Refused}
-use Rattle.content.specs.Answer.{Answer, refused, unless, refusalNumber}
+use Rattle.content.specs.Answer.{Answer, given, refused, unless, refusalNumber}
 use Rattle.content.specs.Body.{isFrame, bodyOf}
 use Rattle.content.specs.Shared.{judgedNumber}
 use Rattle.sentence.specs.Fields.{fields}
@@ -48,20 +48,30 @@ compared e h = sym (tested _ _ _ (e .0) (e .1)) ∙ h
 
 -- ---- three tests in order: their number alone, and before an answer
 
+abbrev inOrder : {A : Type 0} → A → Bool → Bool → Bool → Answer A → Answer A
+inOrder zeros t u v answer = unless zeros t 7 (unless zeros u 8 (unless zeros v 9 answer))
+
+abbrev pub numberInOrder : Bool → Bool → Bool → ℕ
+numberInOrder t u v = inOrder {A = ℕ} 0 t u v (given 0) .number
+
 module _ {A : Type 0} (zeros : A) (answer : Answer A) where
-  refusing : (t u v : Bool) (n : ℕ) → (n ≡ 0 → ⊥) → n ≡ cond t (cond u (cond v 0 9) 8) 7
-      → refused zeros n ≡ unless zeros t 7 (unless zeros u 8 (unless zeros v 9 answer))
+  refusing : (t u v : Bool) (n : ℕ) → (n ≡ 0 → ⊥) → n ≡ numberInOrder t u v → refused zeros n ≡ inOrder zeros t u v answer
   refusing true true true n h e = absurd (h e)
   refusing true true false n h e = ap (refused zeros) e
   refusing true false v n h e = ap (refused zeros) e
   refusing false u v n h e = ap (refused zeros) e
 
-  passing : (t u v : Bool) (n : ℕ) → n ≡ 0 → n ≡ cond t (cond u (cond v 0 9) 8) 7
-      → answer ≡ unless zeros t 7 (unless zeros u 8 (unless zeros v 9 answer))
+  passing : (t u v : Bool) (n : ℕ) → n ≡ 0 → n ≡ numberInOrder t u v → answer ≡ inOrder zeros t u v answer
   passing true true true n h e = refl
   passing true true false n h e = absurd (omega arith)
   passing true false v n h e = absurd (omega arith)
   passing false u v n h e = absurd (omega arith)
+
+-- what the three tests say is what `judge` answers
+pub tests-say : (tag : List ℕ) (count : ℕ) (s : List ℕ) {t u v : Bool} → isFrame nmea s ≡ t → hasTag tag (bodyOf nmea s) ≡ u
+    → eqb (length (fields (bodyOf nmea s))) count ≡ v → numberInOrder t u v ≡ refusalOf tag count s
+unfolding refusalOf
+tests-say tag count s e f g = rw (← e, ← f, ← g)
 
 never-0 : (r : Refusal) → refusalNumber r ≡ 0 → ⊥
 never-0 NotOneFrame e = omega arith

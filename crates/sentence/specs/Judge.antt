@@ -1,11 +1,11 @@
 -- What the readings of every sentence judge first (docs/FORMATS.md, "NMEA content").
 use Prim.Native.Nat.{ℕ}
-use mathlib.Core.Bool.{Bool, true, false, cond, _&&_}
+use mathlib.Core.Bool.{Bool, true, false, _&&_}
 use mathlib.Core.List.{List, [], _∷_}
 use lib.Dec.{eqb}
 use lib.ListN.{length}
 use Rattle.framing.specs.Format.{nmea}
-use Rattle.content.specs.Answer.{Answer, unless}
+use Rattle.content.specs.Answer.{Answer, given, unless}
 use Rattle.content.specs.Body.{isFrame, bodyOf}
 use Rattle.sentence.specs.Fields.{fields, fieldAt}
 
@@ -32,8 +32,6 @@ inSentence zeros tag count s answer =
 abbrev pub fieldIn : List ℕ → ℕ → List ℕ
 fieldIn s i = fieldAt (bodyOf nmea s) i
 
--- ---- what `judge` promises: the number alone, 0 for none
-
+-- what `judge` promises: the number alone, which is 0 where `inSentence` hands on the answer given
 unfoldable pub refusalOf : List ℕ → ℕ → List ℕ → ℕ
-refusalOf tag count s =
-    cond (isFrame nmea s) (cond (hasTag tag (bodyOf nmea s)) (cond (eqb (length (fields (bodyOf nmea s))) count) 0 9) 8) 7
+refusalOf tag count s = inSentence {A = ℕ} 0 tag count s (given 0) .number

@@ -1,58 +1,51 @@
-// sheet FILE: reads a bench file once, to its end, and then prints a sheet for each entry, in order; or `refused 10`, where the
-// file is broken in any way. Judging the contents, stepping a capture and the text of a sheet are functions of benchfile and tally;
-// here is only reading, calling and writing.
-mod captures;
-mod contents;
-mod input;
+// sheet FILE: reads a bench file once, to its end or until it is refused whatever follows, and then prints a sheet for
+// each entry, in order; or `refused 10`, where the file is broken in any way. This file only reads, steps and writes: what is printed is `sheetsOf` of the
+// bytes read (crates/report/specs/Printed.antt).
 mod progress;
 
-use benchfile::sheet::Sheet;
-use captures::Captures;
-use input::Flow;
 use libc::STDERR_FILENO;
 use libc::STDOUT_FILENO;
-ghost use Prim.Native.Nat.{_≤_};
+use progress::Progress;
+use report::Report;
 
-// Prints text; one line on standard error where it can't be written.
-fn print(text: &[u8]) -> bool {
-    let is_written = io::write_all(STDOUT_FILENO, text);
-    if !is_written {
+// So many bytes are read at once.
+const READ: usize = 65536;
+
+// Prints what the file comes to; one line on standard error where it can't be written.
+fn print(report: Report) {
+    let mut text = [0u8; report::LONGEST_TEXT];
+    let n = report.write(&mut text);
+    if !io::write_all(STDOUT_FILENO, &text[..n]) {
         os::fail(b"sheet: standard output");
     }
-    is_written
 }
 
-fn print_sheet(sheet: Sheet) -> bool {
-    let mut text = [0u8; benchfile::sheet::LONGEST_SHEET];
-    let n = benchfile::sheet::write_sheet(sheet, &mut text);
-    print(&text[..n])
-}
-
-// Prints the sheets, in order.
-fn print_sheets(all: Captures)
-    requires { ⌜ all .count ≤ 16 ⌝ }
-{
-    let sheets = all.sheets;
-    let mut i = 0;
-    while i < all.count {
-        if !print_sheet(sheets[i]) {
+// Reads the file to its end, or until it is refused whatever follows, and prints what it comes to. Nothing is printed
+// before. The count of bytes proves that the loop ends; a file with more bytes is refused by then (`long-refused` of
+// report).
+fn read_file(fd: i32, path: &[u8]) {
+    let mut buf = [0u8; READ];
+    let mut report = Report::fresh();
+    let mut progress = Progress::new();
+    while !report::is_too_long(progress.done) {
+        if report.is_refused() {
+            break;
+        }
+        let got = libc::read(fd, &mut buf);
+        if got < 0 {
+            progress.over();
+            os::fail(path);
             return;
         }
-        i += 1;
-    }
-}
-
-// Reads the file and prints what it is. Nothing is printed before the file's end.
-fn report(fd: i32, path: &[u8]) {
-    let all = captures::read_file(fd);
-    let flow = all.flow;
-    match flow {
-        Flow::Good => print_sheets(all),
-        Flow::Broken => {
-            print(b"refused 10\n");
+        let n = io::count(got, &buf);
+        if n == 0 {
+            break;
         }
-        Flow::Unreadable => os::fail(path),
+        report = report.take(&buf[..n]);
+        progress = progress.advanced(n, report.length);
     }
+    progress.over();
+    print(report);
 }
 
 fn main() {
@@ -71,6 +64,6 @@ fn main() {
         os::fail(&path[..length]);
         return;
     }
-    report(fd, &path[..length]);
+    read_file(fd, &path[..length]);
     libc::close(fd);
 }

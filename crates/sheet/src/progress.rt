@@ -1,5 +1,7 @@
 // How far a long file is read: said on standard error, where that is a terminal.
 use libc::STDERR_FILENO;
+ghost use mathlib.Core.Path.{_≡_};
+ghost use Prim.Native.Nat.{_+_, _<_};
 
 // Files up to this length are read without a word.
 const LONG: u64 = 64 * 1024 * 1024;
@@ -9,42 +11,44 @@ const STRIDE: u64 = 16 * 1024 * 1024;
 
 const MEGABYTE: u64 = 1024 * 1024;
 
-pub struct Progress {
-    pub total: u64,
-    pub done: u64,
-    pub shown: bool,
+pub(crate) struct Progress {
+    pub(crate) done: u64,
+    pub(crate) terminal: bool,
 }
 
 impl Progress {
-    // Nothing of a file of this length is read yet.
-    pub fn new(total: u64) -> Progress {
+    // Nothing is read yet.
+    pub(crate) fn new() -> Progress
+        ensures { λ p. ⌜ p .done ≡ 0 ⌝ }
+    {
         Progress {
-            total: total,
             done: 0,
-            shown: LONG < total && libc::isatty(STDERR_FILENO) == 1,
+            terminal: libc::isatty(STDERR_FILENO) == 1,
         }
     }
 
-    // So many bytes more are read.
-    pub fn advanced(self, n: usize) -> Progress {
-        let done = std::num::wrapping_add_u64(self.done, n as u64);
-        if self.shown && self.done / STRIDE != done / STRIDE {
+    // So many bytes more are read of a file of so many in all.
+    pub(crate) fn advanced(self, n: usize, total: u64) -> Progress
+        requires { ⌜ self .done + n < 18446744073709551616 ⌝ }
+        ensures { λ p. ⌜ p .done ≡ self .done + n ⌝ }
+    {
+        let done = self.done + n as u64;
+        if self.terminal && LONG < total && self.done / STRIDE != done / STRIDE {
             io::write_all(STDERR_FILENO, b"\rread ");
             io::print_decimal(STDERR_FILENO, done / MEGABYTE);
             io::write_all(STDERR_FILENO, b" of ");
-            io::print_decimal(STDERR_FILENO, self.total / MEGABYTE);
+            io::print_decimal(STDERR_FILENO, total / MEGABYTE);
             io::write_all(STDERR_FILENO, b" MB");
         }
         Progress {
-            total: self.total,
             done: done,
-            shown: self.shown,
+            terminal: self.terminal,
         }
     }
 
     // The line is cleared.
-    pub fn over(self) {
-        if self.shown {
+    pub(crate) fn over(self) {
+        if self.terminal && LONG < self.done {
             io::write_all(STDERR_FILENO, b"\r                                    \r");
         }
     }

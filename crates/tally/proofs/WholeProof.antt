@@ -10,21 +10,22 @@ use lib.Dec.{T}
 use lib.ListN.{length, length-append}
 use borrow.Author.Tests.{le-ltb}
 use Rattle.framing.specs.Format.{Format, known, formatOf}
-use Rattle.framing.specs.Reading.{ongoing, read, frameCount, pendingCount}
+use Rattle.framing.specs.Reading.{ongoing, closing, read, frameCount, pendingCount}
 use Rattle.framing.proofs.ReadingLaws.{read-nil, closing-rest, pending-bound}
 use Rattle.reader.specs.Calls.{Call, aPiece, aClose, bytesOf, roomOf, modeOf}
+use Rattle.reader.specs.Refusal.{longestPiece, mostBytes}
 use Rattle.reader.proofs.JudgeLaws.{bound-most}
 use Rattle.reader.proofs.StepLaws.{frames-most}
 use Rattle.claims.specs.Machine.{Machine, start, judge, accepted}
-use Rattle.claims.specs.Demand3.{delivery}
+use Rattle.claims.specs.Chunking.{delivery}
 use Rattle.claims.proofs.Chunking.{delivering}
 use Rattle.claims.proofs.View.{readingAt, view, WithinLimit, view-sum, view-fresh, one-call}
 use Rattle.tally.specs.declared.Tally.{Tally}
-use Rattle.tally.specs.Step.{freshTally, step, sheetOf}
-use Rattle.tally.specs.Whole.{tallied, Feeding, WholeCapture}
+use Rattle.tally.specs.Step.{pieceRoom, freshTally, step, sheetOf}
+use Rattle.tally.specs.Whole.{tallied, closingSheet, Feeding, WholeCapture}
 
 -- the tally as read off the machine: nothing was refused, and the frames are those of its reading
-abbrev tallyOf : ℕ → Machine → Tally
+abbrev pub tallyOf : ℕ → Machine → Tally
 tallyOf n m = record { answer = 0; frames = frameCount (readingAt n m); reader = view n m }
 
 -- ---- one call
@@ -32,9 +33,9 @@ tallyOf n m = record { answer = 0; frames = frameCount (readingAt n m); reader =
 -- What the machine asks of a call that it accepts.
 record Fed (m : Machine) (c : Call) : Type 0 where
   unclosed : m .closed ≡ false
-  short : length (bytesOf c) ≤ 4096
-  fits : length (m .delivered) + length (bytesOf c) ≤ 4294967295
-  roomy : 4371 ≤ length (roomOf c)
+  short : length (bytesOf c) ≤ longestPiece
+  fits : length (m .delivered) + length (bytesOf c) ≤ mostBytes
+  roomy : pieceRoom ≤ length (roomOf c)
 
 fed-judged : (f : Format) (m : Machine) (c : Call) → Fed m c → judge f m c ≡ 0
 unfolding judge
@@ -42,8 +43,8 @@ fed-judged f m c h =
     let p = pending-bound ongoing f (m .delivered) in
     rw (
       h .unclosed,
-      le-ltb 4096 (length (bytesOf c)) (h .short),
-      le-ltb 4294967295 (length (m .delivered) + length (bytesOf c)) (h .fits),
+      le-ltb longestPiece (length (bytesOf c)) (h .short),
+      le-ltb mostBytes (length (m .delivered) + length (bytesOf c)) (h .fits),
       le-ltb (length (roomOf c)) (pendingCount (read ongoing f (m .delivered)) + length (bytesOf c)) (omega (arith, bound-most f, p, h .short, h .roomy)),
     )
 
@@ -61,19 +62,19 @@ fed-step n m c k h =
 
 -- ---- all pieces, and the close
 
-all-pieces : (n : ℕ) (d : List ℕ) (cs : List Call) → T (known (formatOf n)) → Feeding cs → length (d ++ delivery cs) ≤ 4294967295
+all-pieces : (n : ℕ) (d : List ℕ) (cs : List Call) → T (known (formatOf n)) → Feeding cs → length (d ++ delivery cs) ≤ mostBytes
     → tallied (tallyOf n (delivering d)) cs ≡ tallyOf n (delivering (d ++ delivery cs))
 unfolding tallied
 all-pieces n d [] k p h = rw append-nil
 all-pieces n d (aPiece bs room ∷ cs) k p h =
-    let g : length ((d ++ bs) ++ delivery cs) ≤ 4294967295 = rw append-assoc h in
-    let fits : length d + length bs ≤ 4294967295 = omega (arith, simp length-append at g) in
+    let g : length ((d ++ bs) ++ delivery cs) ≤ mostBytes = rw append-assoc h in
+    let fits : length d + length bs ≤ mostBytes = omega (arith, simp length-append at g) in
     rw (fed-step n (delivering d) (aPiece bs room) k (record { unclosed = refl; short = omega (arith, p .0); fits = fits; roomy = omega (arith, p .1 .0) }), ← append-assoc)
     (all-pieces n (d ++ bs) cs k (p .1 .1) g)
 all-pieces n d (aClose room ∷ cs) k p h = absurd p
 
 -- the tally of no bytes is the fresh one
-fresh-is : (n : ℕ) → T (known (formatOf n)) → freshTally n ≡ tallyOf n start
+pub fresh-is : (n : ℕ) → T (known (formatOf n)) → freshTally n ≡ tallyOf n start
 unfolding freshTally
 fresh-is n k = rw (view-fresh n k, read-nil ongoing (formatOf n))
 
@@ -81,12 +82,23 @@ fresh-is n k = rw (view-fresh n k, read-nil ongoing (formatOf n))
 abbrev ended : List ℕ → Machine
 ended d = record { delivered = d; closed = true }
 
-all-read : (n : ℕ) (cs : List Call) (room : List ℕ) → T (known (formatOf n)) → Feeding cs → 4371 ≤ length room → length (delivery cs) ≤ 4294967295
+all-read : (n : ℕ) (cs : List Call) (room : List ℕ) → T (known (formatOf n)) → Feeding cs → pieceRoom ≤ length room → length (delivery cs) ≤ mostBytes
     → step (tallied (freshTally n) cs) (aClose room) .tally ≡ tallyOf n (ended (delivery cs))
 all-read n cs room k p r h =
     let bs : List ℕ = delivery cs in
     let e = fed-step n (delivering bs) (aClose room) k (record { unclosed = refl; short = omega arith; fits = omega arith; roomy = omega arith }) in
     rw (fresh-is n k, all-pieces n [] cs k p h, e, append-nil bs)
+
+-- the same, one call at a time
+pub piece-is : (n : ℕ) (d bs room : List ℕ) → T (known (formatOf n)) → length bs ≤ longestPiece → length d + length bs ≤ mostBytes → pieceRoom ≤ length room
+    → step (tallyOf n (delivering d)) (aPiece bs room) .tally ≡ tallyOf n (delivering (d ++ bs))
+piece-is n d bs room k s f r = fed-step n (delivering d) (aPiece bs room) k (record { unclosed = refl; short = s; fits = f; roomy = r })
+
+pub close-is : (n : ℕ) (d room : List ℕ) → T (known (formatOf n)) → length d ≤ mostBytes → pieceRoom ≤ length room
+    → sheetOf (step (tallyOf n (delivering d)) (aClose room) .tally) ≡ closingSheet n (read closing (formatOf n) d)
+unfolding sheetOf
+close-is n d room k f r =
+    rw (fed-step n (delivering d) (aClose room) k (record { unclosed = refl; short = omega arith; fits = omega arith; roomy = r }), append-nil d, closing-rest (formatOf n) d)
 
 pub whole-capture : WholeCapture
 unfolding sheetOf

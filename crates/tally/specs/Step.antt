@@ -5,9 +5,14 @@ use mathlib.Core.List.{List}
 use lib.Dec.{eqb}
 use Rattle.reader.specs.declared.Outcome.{Outcome}
 use Rattle.reader.specs.State.{freshOf}
+use Rattle.reader.specs.Refusal.{longestPiece}
 use Rattle.reader.specs.Calls.{Call, roomOf, Returned, serve}
 use Rattle.benchfile.specs.declared.sheet.Sheet.{Sheet}
 use Rattle.tally.specs.declared.Tally.{Tally}
+
+-- the room that takes every piece: as many bytes as a piece can have, and the 275 that can be pending
+abbrev pub pieceRoom : ℕ
+pieceRoom = 275 + longestPiece
 
 -- a fresh reader, and no frames
 unfoldable pub freshTally : ℕ → Tally

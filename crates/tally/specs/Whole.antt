@@ -7,10 +7,11 @@ use lib.ListN.{length}
 use Rattle.framing.specs.Format.{known, formatOf}
 use Rattle.framing.specs.Reading.{closing, Reading, read, frameCount, framedCount, skippedCount}
 use Rattle.reader.specs.Calls.{Call, aPiece, aClose}
-use Rattle.claims.specs.Demand3.{delivery}
+use Rattle.reader.specs.Refusal.{longestPiece, mostBytes}
+use Rattle.claims.specs.Chunking.{delivery}
 use Rattle.benchfile.specs.declared.sheet.Sheet.{Sheet}
 use Rattle.tally.specs.declared.Tally.{Tally}
-use Rattle.tally.specs.Step.{freshTally, step, sheetOf}
+use Rattle.tally.specs.Step.{pieceRoom, freshTally, step, sheetOf}
 
 -- the tally after a list of calls, each on the tally as the call before returned it
 unfoldable pub tallied : Tally → List Call → Tally
@@ -21,10 +22,10 @@ tallied t (c ∷ cs) = tallied (step t c .tally) cs
 abbrev pub closingSheet : ℕ → Reading → Sheet
 closingSheet n g = record { format = n; frames = frameCount g; framed = framedCount g; skipped = skippedCount g; pending = 0 }
 
--- every call is a piece of at most 4,096 bytes, with room for it and for what can be pending
+-- every call is a piece that is not too long, with room for it and for what can be pending
 abbrev pub Feeding : List Call → Type 0
 Feeding [] = Unit {0}
-Feeding (aPiece bs room ∷ cs) = (length bs ≤ 4096) × ((4371 ≤ length room) × Feeding cs)
+Feeding (aPiece bs room ∷ cs) = (length bs ≤ longestPiece) × ((pieceRoom ≤ length room) × Feeding cs)
 Feeding (aClose room ∷ cs) = ⊥
 
 -- What holds of a capture's tally t, fed and closed.
@@ -36,5 +37,5 @@ pub record Complete (n : ℕ) (bytes : List ℕ) (t : Tally) : Type 0 where
 abbrev pub WholeCapture : Type 0
 WholeCapture =
     (n : ℕ) (cs : List Call) (room : List ℕ)
-    → T (known (formatOf n)) → Feeding cs → 4371 ≤ length room → length (delivery cs) ≤ 4294967295
+    → T (known (formatOf n)) → Feeding cs → pieceRoom ≤ length room → length (delivery cs) ≤ mostBytes
     → Complete n (delivery cs) (step (tallied (freshTally n) cs) (aClose room) .tally)

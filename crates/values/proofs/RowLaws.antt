@@ -13,9 +13,10 @@ use mir.Facts.{toZ-pos}
 use mir.Syntax.{Width, w8, w64}
 use mir.Val.{hbits, boolByte, Fits, SFits, toZ, ofZ}
 use Rattle.numbers.proofs.Size.{stays, wider}
-use Rattle.framing.specs.Format.{Format, mgl, onflight, nmea, unknown, longest}
+use Rattle.framing.specs.Format.{Format, longest, bodyStart, bodyEnd}
+use Rattle.framing.proofs.FormatLaws.{lawful, body-fits}
 use Rattle.content.specs.Answer.{Answer, given, unless}
-use Rattle.content.specs.Body.{Span, nowhere, isFrame, bodyStart, bodyEnd, placeAnswer, placeOf}
+use Rattle.content.specs.Body.{Span, nowhere, isFrame, placeAnswer, placeOf}
 use Rattle.content.specs.declared.Place.the-variants.{At}
 use Rattle.content.specs.declared.Place.{Place}
 use Rattle.content.proofs.BodyLaws.{frame-short}
@@ -65,11 +66,9 @@ pub record Near (x : Span) : Type 0 where
   pub end : x .end ≤ 276
 
 frame-near : (f : Format) (s : List ℕ) → length s ≤ longest f → Near (record { start = bodyStart f; end = length s - bodyEnd f })
-unfolding bodyStart bodyEnd longest
-frame-near mgl s h = record { start = omega arith; end = omega arith }
-frame-near onflight s h = record { start = omega arith; end = omega arith }
-frame-near nmea s h = record { start = omega arith; end = omega arith }
-frame-near unknown s h = record { start = omega arith; end = omega arith }
+frame-near f s h =
+    let m = lawful f .most in
+    record { start = omega (arith, body-fits f, lawful f .in-order); end = omega arith }
 
 place-near : (f : Format) (s : List ℕ) → Near (placeOf f s .value)
 unfolding placeOf

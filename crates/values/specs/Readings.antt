@@ -12,10 +12,10 @@ use Rattle.content.specs.Body.{placeOf}
 use Rattle.mgl.specs.Header.{headerOf}
 use Rattle.mgl.specs.Gps.{gpsOf}
 use Rattle.mgl.specs.Fuel.{countOf, tankOf}
-use Rattle.mgl.specs.Clock as mglClock
+use Rattle.mgl.specs.Clock.{mglClockOf}
 use Rattle.gyro.specs.Gyro.{numberOf}
 use Rattle.onflight.specs.Status.{statusOf, setBitsOf}
-use Rattle.onflight.specs.Time as time
+use Rattle.onflight.specs.Time.{bootOf, elapsedOf, onflightClockOf}
 use Rattle.onflight_sensors.specs.Sensor.{voltagesOf, axesOf, pressureOf}
 use Rattle.onflight_sensors.specs.Position.{fixOf, positionOf, altitudeOf}
 use Rattle.onflight_sensors.specs.Ratio.{noRatio, voltageOf, loadOf}
@@ -25,7 +25,8 @@ use Rattle.values.specs.declared.Values.{Values}
 use Rattle.values.specs.declared.Ratio.{Ratio}
 use Rattle.values.specs.Values.{numbered, valuesOf, numberValues, signedValues, spanValues, clockList, positionValues, headerValues, gpsValues, tankValues, statusValues, voltagesValues, axesValues, fixValues, settingValues}
 
--- A number that is no reading's belongs to no format, and no bytes are a frame of no format: refusal 7.
+-- A number that is no reading's belongs to no format, and no bytes are a frame of no format: refusal 7. This is a case added to
+-- document 01's list of 7.
 abbrev pub noReading : Values
 noReading = numbered 7 []
 
@@ -37,14 +38,14 @@ readings mgl item s =
     ∷ valuesOf gpsValues (gpsOf s)  -- 102
     ∷ valuesOf numberValues (countOf s)  -- 103
     ∷ valuesOf tankValues (tankOf s item)  -- 104
-    ∷ valuesOf clockList (mglClock.clockOf s)  -- 105
+    ∷ valuesOf clockList (mglClockOf s)  -- 105
     ∷ []
 readings onflight item s =
     valuesOf spanValues (placeOf onflight s)  -- 200
     ∷ valuesOf statusValues (statusOf s)  -- 201
     ∷ valuesOf numberValues (setBitsOf s)  -- 202
-    ∷ valuesOf numberValues (time.bootOf s)  -- 203
-    ∷ valuesOf clockList (time.clockOf s)  -- 204
+    ∷ valuesOf numberValues (bootOf s)  -- 203
+    ∷ valuesOf clockList (onflightClockOf s)  -- 204
     ∷ valuesOf voltagesValues (voltagesOf s)  -- 205
     ∷ valuesOf axesValues (axesOf 18 s)  -- 206, accelerations
     ∷ valuesOf axesValues (axesOf 24 s)  -- 207, gyros
@@ -57,7 +58,7 @@ readings onflight item s =
     ∷ []
 readings nmea item s =
     valuesOf spanValues (placeOf nmea s)  -- 300
-    ∷ valuesOf clockList (rmc.clockOf s)  -- 301
+    ∷ valuesOf clockList (rmc.rmcClockOf s)  -- 301
     ∷ valuesOf positionValues (rmc.positionOf s)  -- 302
     ∷ valuesOf numberValues (rmc.statusOf s)  -- 303
     ∷ valuesOf settingValues (settingOf s)  -- 304
@@ -79,7 +80,7 @@ ratioOf n s =
 
 -- milliseconds from frame a to frame b
 unfoldable pub elapsedValues : List ℕ → List ℕ → Values
-elapsedValues a b = valuesOf numberValues (time.elapsedOf a b)
+elapsedValues a b = valuesOf numberValues (elapsedOf a b)
 
 -- the gyro number that stands for a rate
 unfoldable pub gyroValues : ℤ → Values

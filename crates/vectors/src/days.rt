@@ -6,6 +6,7 @@ use text::write_u8;
 use text::write_u16;
 use text::write_units;
 
+// Takes the year as the first one, so that its number is 0.
 fn day(year: u16, month: u8, day: u8) {
     let t = DateTime {
         year: 0,
@@ -15,7 +16,7 @@ fn day(year: u16, month: u8, day: u8) {
         minute: 0,
         second: 0,
     };
-    match calendar::clock_of(t, year, 2255) {
+    match calendar::clock_of(t, year, 0) {
         Clock::Good(seconds) => write_units(b"", seconds, 86_400),
         Clock::Wrong(_) => write(b"wrong"),
         Clock::Unset => write(b"unset"),

@@ -13,8 +13,8 @@ use lib.ListN.{length, take, drop, getD, length-append, length-drop, drop-of-len
 use lib.Seq.{drop-cons, take-at, drop-append-le}
 use borrow.Author.Tests.{le-leb, lt-leb}
 use Rattle.numbers.specs.Low.{lowBytes}
+use Rattle.framing.specs.Nmea.{permitted}
 use Rattle.framing.specs.Format.{mgl}
-use Rattle.framing.specs.Shape.{permitted}
 use Rattle.room.specs.Room.{lay, copied}
 use Rattle.room.proofs.RoomLaws.{lay-copied, start-copied}
 use Rattle.mgl.specs.declared.Header.{Header}

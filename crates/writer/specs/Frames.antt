@@ -8,8 +8,8 @@ use Rattle.numbers.specs.Low.{lowBytes}
 use Rattle.checksum.specs.Crc.{crcOf}
 use Rattle.checksum.specs.Fletcher.{fletcherOf}
 use Rattle.checksum.specs.Xor.{xorOf}
+use Rattle.framing.specs.Nmea.{permitted}
 use Rattle.framing.specs.Format.{Format, mgl, onflight, nmea, unknown}
-use Rattle.framing.specs.Shape.{permitted}
 use Rattle.mgl.specs.declared.Header.{Header}
 
 -- ---- what is taken: refusal 5 is given exactly for the others

@@ -52,7 +52,7 @@ fn all_permitted(body: &[u8]) -> bool
 {
     let mut i = 0;
     while i < body.len() {
-        if !framing::shape::is_permitted(body[i]) {
+        if !framing::nmea::is_permitted(body[i]) {
             return false;
         }
         i += 1;

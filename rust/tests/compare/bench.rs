@@ -36,7 +36,7 @@ fn entry(run: &mut Run, first: &[u8], file_len: u64, item: u32) {
     run.tally.call("bench entry", expected.number, first.len());
 }
 
-/// The first bytes of a file and its length: mostly sound, else with one thing wrong.
+/// The first bytes of a file and its length: mostly sound, else with one thing wrong. More bytes than the file has are sound.
 fn some_file(rng: &mut Prng) -> (Vec<u8>, u64) {
     let n = if rng.one_in(10) { rng.pick(&[0, 17, 18]) } else { rng.range(1, 16) as u8 };
     let mut first = vec![n];
@@ -58,7 +58,7 @@ fn some_file(rng: &mut Prng) -> (Vec<u8>, u64) {
     (first, file_len)
 }
 
-/// Perhaps one thing wrong.
+/// Perhaps one thing wrong, or more bytes than the file has.
 fn spoil(rng: &mut Prng, first: &mut Vec<u8>, file_len: &mut u64, contents: usize) {
     match rng.below(14) {
         0 => first[0] = rng.pick(&[0, 17, 255, first[0] + 1, first[0].saturating_sub(1)]),

@@ -10,6 +10,7 @@ mod bench;
 mod calls;
 #[path = "../../src/ffi.rs"]
 mod ffi;
+mod frames;
 #[path = "../generate/mod.rs"]
 mod generate;
 mod lines;
@@ -52,6 +53,7 @@ fn main() {
 fn one_round(run: &mut Run) {
     lines::compare(run);
     states::compare(run);
+    frames::compare(run);
     readings::compare(run);
     writers::compare(run);
     bench::compare(run);

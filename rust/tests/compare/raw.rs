@@ -42,6 +42,11 @@ pub fn call(reader: &mut [u8], call: Call, room: &mut [u8]) -> u32 {
     }
 }
 
+pub fn frame_len(format: u32, bytes: &[u8]) -> usize {
+    // SAFETY: the slice is initialised and only read.
+    unsafe { ffi::capture_frame_len(format, lend(bytes), bytes.len()) }
+}
+
 pub fn read(reading: u32, item: u32, frame: &[u8]) -> Answer {
     // SAFETY: the slice is initialised and only read.
     answer(unsafe { ffi::capture_read(reading, item, lend(frame), frame.len()) })

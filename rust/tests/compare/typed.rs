@@ -44,6 +44,11 @@ pub fn frames(format: u32, handed: &[u8]) -> Frames<'_> {
     Frames::new(Format::from_number(format).expect("a known format"), handed)
 }
 
+/// The length of the frame that bytes begin with, or 0.
+pub fn frame_len(format: u32, bytes: &[u8]) -> usize {
+    blossomaxle::frame_len(Format::from_number(format).expect("a known format"), bytes).unwrap_or(0)
+}
+
 /// The reading with a number, if the crate has one.
 pub fn read(reading: u32, item: u32, frame: &[u8]) -> Option<Answer> {
     Some(match reading {

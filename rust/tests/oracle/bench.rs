@@ -8,7 +8,6 @@ pub fn entry(first: &[u8], file_len: u64, item: u32) -> Answer {
 }
 
 fn judge(first: &[u8], file_len: u64, item: u32) -> Judged {
-    require(first.len() as u64 <= file_len, 10)?;
     let (n, rest) = first.split_first().ok_or(10u32)?;
     require((1..=16).contains(n), 10)?;
     let entries: Vec<&[u8]> = rest.chunks_exact(6).take(usize::from(*n)).collect();

@@ -34,6 +34,14 @@ pub fn front(format: u32, bytes: &[u8]) -> Front {
     }
 }
 
+/// The length of the frame that bytes begin with, or 0.
+pub fn frame_len(format: u32, bytes: &[u8]) -> usize {
+    match front(format, bytes) {
+        Front::Frame(length) => length,
+        Front::Start | Front::Neither => 0,
+    }
+}
+
 /// Whether bytes are one whole frame.
 pub fn is_frame(format: u32, bytes: &[u8]) -> bool {
     front(format, bytes) == Front::Frame(bytes.len())

@@ -1,5 +1,5 @@
 use borrow.Author.Tests.{le-leb, lt-leb}
-use Rattle.benchfile.specs.Contents.{isContents}
+use Rattle.benchfile.specs.Contents.{mostEntries, isContents}
 use borrow.Author.Needs.{needs}
 use Rattle.benchfile.proofs.is_contents.Statement.{statement}
 use Rattle.benchfile.proofs.is_contents.Tie as tie
@@ -11,10 +11,11 @@ is-contents-spec =
     (tie.spec
     (λ c κs. search needs)
     (λ c. rw (← c .before .byte-at .ensures, lt-leb 1 _ (c .if1 .taken)))
-    (λ c. rw (← c .before .before .byte-at .ensures, le-leb 1 _ (c .before .if1 .left), lt-leb _ 16 (c .if2 .taken)))
+    (λ c. search needs)
+    (λ c. rw (← c .before .before .byte-at .ensures, le-leb 1 _ (c .before .if1 .left), lt-leb _ mostEntries (c .if2 .taken)))
     (λ c. search needs)
     (λ c. search needs)
     (λ c. search needs)
-    (λ c. rw (← c .before .before .before .byte-at .ensures, le-leb 1 _ (c .before .before .if1 .left), le-leb _ 16 (c .before .if2 .left), lt-leb _ _ (c .if3 .taken)))
+    (λ c. rw (← c .before .before .before .byte-at .ensures, le-leb 1 _ (c .before .before .if1 .left), le-leb _ mostEntries (c .before .if2 .left), lt-leb _ _ (c .if3 .taken)))
     (λ c κs. search needs)
-    (λ c. rw (← c .before .before .before .before .byte-at .ensures, le-leb 1 _ (c .before .before .before .if1 .left), le-leb _ 16 (c .before .before .if2 .left), le-leb _ _ (c .before .if3 .left)) (c .all-known .ensures)))
+    (λ c. rw (← c .before .before .before .before .byte-at .ensures, le-leb 1 _ (c .before .before .before .if1 .left), le-leb _ mostEntries (c .before .before .if2 .left), le-leb _ _ (c .before .if3 .left)) (c .all-known .ensures)))

@@ -1,4 +1,4 @@
-use Rattle.benchfile.proofs.ContentsLaws.{total-is}
+use Rattle.benchfile.proofs.ContentsLaws.{length-is}
 use Rattle.content.proofs.AnswerLaws.{answers}
 use Rattle.benchfile.specs.Contents.{lengthOf}
 use borrow.Author.Needs.{needs}
@@ -14,4 +14,4 @@ read-length-spec =
     (λ c. search answers)
     (λ c κs. search needs)
     (λ c κs. search needs)
-    (λ c. let t = total-is _ (c .before .byte-at .ensures) (c .body-start .ensures) in search answers))
+    (λ c. let t = length-is _ (c .before .byte-at .ensures) (c .body-start .ensures) in search answers))

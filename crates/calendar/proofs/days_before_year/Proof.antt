@@ -15,5 +15,4 @@ days-before-year-spec =
     (λ c. search needs)
     (λ c. search needs)
     (λ c. search needs)
-    (λ c. search needs)
-    (λ c. (counted _ (c .pre), omega arith)))
+    (λ c. (counted _, omega arith)))

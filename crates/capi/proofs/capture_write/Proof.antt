@@ -26,4 +26,4 @@ capture-write-spec =
     (λ c. rw (c .before .before .before .before .before .match .keys2) (c .answer-of2 .ensures _ ∙ c .before .before .before .write-onflight .ensures))
     (λ c. search needs)
     (λ c. rw (c .before .before .before .before .before .match .keys3) (c .answer-of3 .ensures _ ∙ c .before .before .before .write-nmea .ensures))
-    (λ c. rw (no-format _ (c .match .rest .0 .0 .1) (c .match .rest .0 .1) (c .match .rest .1))))
+    (λ c. rw (no-format _ (c .match .rest))))

@@ -1,26 +1,21 @@
 use borrow.Author.Needs.{needs}
 use mathlib.Core.Path.{_∙_, sym}
-use Rattle.framing.proofs.FrameLaws.{front-at, front-whole}
-use Rattle.framing.proofs.Length.{whole-within}
+use Rattle.framing.specs.Format.{formatOf}
+use Rattle.framing.proofs.FormatLaws.{no-format}
+use Rattle.framing.proofs.FrameLaws.{no-front}
 use Rattle.framing.proofs.front.Statement.{statement}
 use Rattle.framing.proofs.front.Tie as tie
 
 pub front-spec : {M : Type 1} → statement M
+unfolding formatOf
 front-spec =
     tie.close
     (tie.spec
     (λ c κs. search needs)
-    (λ c. search needs)
-    (λ c κs.
-    let w = whole-within _ _ _ (sym (c .before .before .before .scan .ensures) ∙ c .before .n .given .1) in
-    (w .least, w .most, w .inside))
-    (λ c.
-    sym (front-whole _ _ (sym (c .before .before .before .before .before .scan .ensures)
-    ∙ c .before .before .before .n .given .1) (sym (c .before .is-frame .ensures) ∙ c .if1 .taken)))
-    (λ c. search needs)
-    (λ c. search needs)
-    (λ c.
-    sym (front-whole _ _ (sym (c .before .before .before .before .before .scan .ensures)
-    ∙ c .before .before .before .n .given .1) (sym (c .before .is-frame .ensures) ∙ c .if1 .left)))
-    (λ c. sym (front-at _ _ (sym (c .before .before .scan .ensures) ∙ c .enum-told .given .1)))
-    (λ c. sym (front-at _ _ (sym (c .before .before .before .scan .ensures) ∙ c .before .r .given .1))))
+    (λ c κs. search needs)
+    (λ c κs. search needs)
+    (λ c κs. search needs)
+    (λ c. rw (c .before .match .keys1) (c .front .ensures))
+    (λ c. rw (c .before .match .keys2) (c .front2 .ensures))
+    (λ c. rw (c .before .match .keys3) (c .front3 .ensures))
+    (λ c. rw (no-format _ (c .before .match .rest)) (c .nothing .ensures ∙ sym (no-front _))))

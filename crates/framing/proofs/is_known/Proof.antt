@@ -1,14 +1,10 @@
-use Rattle.framing.specs.Format.{known, formatOf}
-use Rattle.framing.proofs.FormatLaws.{no-format}
+use borrow.Author.Needs.{needs}
+use mathlib.Core.Path.{ap}
+use Rattle.framing.specs.declared.Layout.{Layout}
+use Rattle.framing.specs.Format.{known, layoutOf}
 use Rattle.framing.proofs.is_known.Statement.{statement}
 use Rattle.framing.proofs.is_known.Tie as tie
 
 pub is-known-spec : {M : Type 1} → statement M
-unfolding formatOf known
-is-known-spec =
-    tie.close
-    (tie.spec
-    (λ c. rw (c .match .keys1))
-    (λ c. rw (c .match .keys2))
-    (λ c. rw (c .match .keys3))
-    (λ c. rw (no-format _ (c .match .rest .0 .0 .1) (c .match .rest .0 .1) (c .match .rest .1))))
+unfolding known layoutOf
+is-known-spec = tie.close (tie.spec (λ c κs. search needs) (λ c. ap (λ (l : Layout). l .known) (c .layout-of .ensures)))

@@ -17,4 +17,4 @@ read-spec =
     (λ c. rw (c .before .match .keys1) (c .read .ensures))
     (λ c. rw (c .before .match .keys2) (c .read2 .ensures))
     (λ c. rw (c .before .match .keys3) (c .read3 .ensures))
-    (λ c. rw (no-format _ (c .before .match .rest .0 .0 .1) (c .before .match .rest .0 .1) (c .before .match .rest .1)) (c .none .ensures)))
+    (λ c. rw (no-format _ (c .before .match .rest)) (c .none .ensures)))

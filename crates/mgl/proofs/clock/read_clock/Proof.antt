@@ -1,12 +1,12 @@
 use borrow.Author.Needs.{needs}
 use Rattle.framing.specs.Format.{formatOf}
 use Rattle.content.proofs.AnswerLaws.{after, held, answers}
-use Rattle.mgl.specs.Clock.{clockOf}
+use Rattle.mgl.specs.Clock.{mglClockOf}
 use Rattle.mgl.proofs.clock.read_clock.Statement.{statement}
 use Rattle.mgl.proofs.clock.read_clock.Tie as tie
 
 pub read-clock-spec : {M : Type 1} → statement M
-unfolding formatOf clockOf
+unfolding formatOf mglClockOf
 read-clock-spec =
     tie.close
     (tie.spec

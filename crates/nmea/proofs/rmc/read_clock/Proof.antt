@@ -1,13 +1,13 @@
 use borrow.Author.Needs.{needs}
 use mathlib.Core.Path.{_∙_}
 use Rattle.framing.specs.Format.{formatOf}
-use Rattle.nmea.specs.Rmc.{clockOf}
+use Rattle.nmea.specs.Rmc.{rmcClockOf}
 use Rattle.sentence.proofs.JudgeLaws.{judged-refused, judged-done}
 use Rattle.nmea.proofs.rmc.read_clock.Statement.{statement}
 use Rattle.nmea.proofs.rmc.read_clock.Tie as tie
 
 pub read-clock-spec : {M : Type 1} → statement M
-unfolding formatOf clockOf
+unfolding formatOf rmcClockOf
 read-clock-spec =
     tie.close
     (tie.spec

@@ -1,12 +1,12 @@
 use borrow.Author.Needs.{needs}
 use Rattle.framing.specs.Format.{formatOf}
 use Rattle.content.proofs.AnswerLaws.{after, fails, held, failed}
-use Rattle.onflight.specs.Time.{clockOf}
+use Rattle.onflight.specs.Time.{onflightClockOf}
 use Rattle.onflight.proofs.time.read_clock.Statement.{statement}
 use Rattle.onflight.proofs.time.read_clock.Tie as tie
 
 pub read-clock-spec : {M : Type 1} → statement M
-unfolding formatOf clockOf
+unfolding formatOf onflightClockOf
 read-clock-spec =
     tie.close
     (tie.spec

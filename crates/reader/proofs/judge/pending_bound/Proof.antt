@@ -1,14 +1,14 @@
-use Rattle.framing.specs.Format.{formatOf, pendingBound}
-use Rattle.framing.proofs.FormatLaws.{no-format}
+use borrow.Author.Needs.{needs}
+use native.Mathlib.Omega.{arith}
+use Rattle.reader.proofs.JudgeLaws.{bound-is}
 use Rattle.reader.proofs.judge.pending_bound.Statement.{statement}
 use Rattle.reader.proofs.judge.pending_bound.Tie as tie
 
 pub pending-bound-spec : {M : Type 1} → statement M
-unfolding formatOf pendingBound
 pending-bound-spec =
     tie.close
     (tie.spec
-    (λ c. rw (c .match .keys1))
-    (λ c. rw (c .match .keys2))
-    (λ c. rw (c .match .keys3))
-    (λ c. rw (no-format _ (c .match .rest .0 .0 .1) (c .match .rest .0 .1) (c .match .rest .1))))
+    (λ c κs. search needs)
+    (λ c. omega (arith, bound-is _ (c .before .before .layout-of .ensures), c .if1 .taken))
+    (λ c. omega (arith, c .before .if1 .left))
+    (λ c. bound-is _ (c .before .before .before .layout-of .ensures)))

@@ -16,7 +16,7 @@ use Rattle.reader.proofs.FinishLaws.{length-frame, finish-none, finish-
 use Rattle.reader.proofs.walk.finish.Reads as finish
 use Rattle.reader.proofs.walk.finish.Kinds as finish-kinds
 use Rattle.reader.proofs.walk.+finish.Lts-finish as finish-lts
-use Rattle.reader.proofs.walk.frame_length.Reads as frame-length-reads
+use Rattle.framing.proofs.run.frame_length.Reads as frame-length-reads
 use Rattle.room.proofs.copy.Reads as copy-reads
 use Rattle.reader.proofs.walk.+finish.{statement}
 use Rattle.reader.proofs.walk.+finish.Tie.{close}

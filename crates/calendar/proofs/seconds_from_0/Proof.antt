@@ -1,0 +1,26 @@
+use borrow.Author.Needs.{needs}
+use Rattle.calendar.specs.Calendar.{daysTo}
+use Rattle.calendar.proofs.seconds_from_0.Statement.{statement}
+use Rattle.calendar.proofs.seconds_from_0.Tie as tie
+
+pub seconds-from-0-spec : {M : Type 1} → statement M
+unfolding daysTo
+seconds-from-0-spec =
+    tie.close
+    (tie.spec
+    (λ c κs. search needs)
+    (λ c κs. search needs)
+    (λ c. search needs)
+    (λ c. search needs)
+    (λ c. search needs)
+    (λ c. search needs)
+    (λ c. search needs)
+    (λ c. search needs)
+    (λ c. search needs)
+    (λ c. search needs)
+    (λ c. search needs)
+    (λ c. search needs)
+    (λ c. search needs)
+    (λ c. search needs)
+    (λ c. search needs)
+    (λ c. search needs))

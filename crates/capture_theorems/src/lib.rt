@@ -1,0 +1,1 @@
+// Theorems about the exported functions; there is no code here.
