@@ -1,5 +1,5 @@
-// sheet FILE: reads a bench file once, to its end or until it is refused whatever follows, and then prints a sheet for
-// each entry, in order; or `refused 10`, where the file is broken in any way. This file only reads, steps and writes: what is printed is `sheetsOf` of the
+// sheet FILE: reads a bench file once, to its end or until `is_refused` says so, and then prints a sheet for each entry,
+// in order; or `refused 10`, where the file is broken in any way. This file only reads, steps and writes: what is printed is `sheetsOf` of the
 // bytes read (crates/report/specs/Printed.antt).
 mod progress;
 
@@ -20,7 +20,7 @@ fn print(report: Report) {
     }
 }
 
-// Reads the file to its end, or until it is refused whatever follows, and prints what it comes to. Nothing is printed
+// Reads the file to its end, or until its report is refused already, and prints what it comes to. Nothing is printed
 // before. The count of bytes proves that the loop ends; a file with more bytes is refused by then (`long-refused` of
 // report).
 fn read_file(fd: i32, path: &[u8]) {
