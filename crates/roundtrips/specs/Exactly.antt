@@ -1,6 +1,6 @@
 -- What shapes and frames are, by their layout (docs/FORMATS.md, "MGL frames", "OnFlight frames", "NMEA sentences"). Together with
 -- `FrontExactly` of crates/framing/specs/Meaning.antt, which says what a proper start is, these statements say all that the rules for
--- single bytes (`next`) come to.
+-- single bytes (`next`) come to, but for the reasons of skipped bytes.
 use Prim.Native.Nat.{ℕ, _+_, _≤_}
 use mathlib.Core.Path.{_≡_}
 use mathlib.Core.Logic.{_↔_, _⊎_}
