@@ -139,15 +139,20 @@ fn blocks(s: &[u8]) -> usize
     requires { ⌜ 0 < length (now s) ⌝ }
     ensures { λ r. ⌜ Reached r (now (s .entry)) ⌝ }
 {
-    let mut k: usize = 1;
     if s.len() <= 32 {
-        return k;
+        return 1;
     }
     // In a storm of starts bodies end at once.
     if s[1] == b'$' {
-        return k;
+        return 1;
+    }
+    // Most bodies end in the first block. It has a fixed place, so reading it does not wait for the line's length.
+    let first = block(s, 1) as usize;
+    if first < 32 {
+        return 1 + first;
     }
     let last = s.len() - 32;
+    let mut k: usize = 33;
     while k < s.len() && k < 77 {
         let from = min_usize(k, last);
         let n = block(s, from) as usize;
