@@ -3,21 +3,23 @@
 use crate::ffi;
 use crate::Refusal;
 
-/// The values of an answer that are not taken yet.
+/// The values of an answer, and how many of them are taken.
 pub struct Row {
-    values: std::array::IntoIter<i64, { ffi::VALUES }>,
+    values: [i64; ffi::VALUES],
+    taken: usize,
 }
 
 impl Row {
     /// The values, or the refusal.
     pub fn judge(answer: ffi::Values) -> Result<Row, Refusal> {
-        Refusal::judge(answer.number).map(|()| Row { values: answer.values.into_iter() })
+        Refusal::judge(answer.number).map(|()| Row { values: answer.values, taken: 0 })
     }
 
     /// The next value. The library promises that it fits; where it does not, the library is not the one that this
     /// crate was written for, and nothing it says can be used.
     pub fn next<T: TryFrom<i64>>(&mut self) -> T {
-        let value = self.values.next().expect("no reading has more values than an answer has room for");
+        let value = *self.values.get(self.taken).expect("no reading has more values than an answer has room for");
+        self.taken += 1;
         T::try_from(value).unwrap_or_else(|_| misfit(value))
     }
 

@@ -1,42 +1,37 @@
--- The days of a month, and of the months before it.
+-- The months that are none, and the leap day.
 -- Assumes nothing.
-use mathlib.Core.Path.{_≡_, sym, ap, _∙_}
-use mathlib.Core.List.{List, [], _∷_}
-use Prim.Native.Nat.{ℕ, zero, suc, _+_, _-_, _<_, _≤_, max}
+use mathlib.Core.Bool.{Bool, true, false, cond, _&&_}
+use mathlib.Core.Path.{_≡_, refl, sym}
+use Prim.Native.Nat.{ℕ, zero, suc, _≤_, _<_}
 use native.Mathlib.Omega.{arith}
-use lib.ListN.{getD, List·getD-eq-default}
-use Rattle.calendar.specs.Calendar.{lengths, plainDays, monthDays, monthsTo}
+use lib.ListN.{List·getD-eq-default}
+use mir.Val.{boolByte}
+use Rattle.calendar.specs.Calendar.{lengths, plainDays}
 
-module _ (m : ℕ) where
-  pub plain-at : 1 ≤ m → getD lengths (m - 1) 0 ≡ plainDays m
-  unfolding plainDays
-  plain-at h = let e : suc (m - 1) ≡ m = omega arith in ap plainDays e
+-- m is none of the numbers from 1 to n, as a `match` on them leaves it
+abbrev Beside : ℕ → ℕ → Type 0
+Beside zero m = Unit {0}
+Beside (suc n) m = Beside n m × (m ≡ suc n → ⊥)
 
-  pub plain-low : m < 1 → 0 ≡ plainDays m
-  unfolding plainDays
-  plain-low h = let e : 0 ≡ m = omega arith in ap plainDays e
+above : (n m : ℕ) → 1 ≤ m → Beside n m → n < m
+above zero m h r = h
+above (suc n) m h r = omega (arith, above n m h (r .0), r .1)
 
-  pub plain-high : 12 < m → 0 ≡ plainDays m
-  plain-high h = sym (List·getD-eq-default lengths 0 {n = m - 1} (omega arith)) ∙ plain-at (omega arith)
+pub no-days : (m : ℕ) → Beside 12 m → 0 ≡ plainDays m
+unfolding plainDays
+no-days zero r = refl
+no-days (suc i) r = sym (List·getD-eq-default lengths 0 {n = i} (omega (arith, above 12 (suc i) (omega arith) r)))
 
-most : List ℕ → ℕ
-most [] = 0
-most (x ∷ xs) = max x (most xs)
+pub no-month : (m : ℕ) → m ≤ 12 → Beside 12 m → m ≡ 0
+no-month zero h r = refl
+no-month (suc i) h r = omega (arith, above 12 (suc i) (omega arith) r)
 
-below-most : (xs : List ℕ) (i : ℕ) → getD xs i 0 ≤ most xs
-unfolding most
-below-most [] i = omega arith
-below-most (x ∷ xs) zero = omega arith
-below-most (x ∷ xs) (suc i) = let h = below-most xs i in omega arith
+-- a day more where both hold
+pub extra-day : (a b : Bool) → boolByte (a && b) ≡ cond a (cond b 1 0) 0
+extra-day true true = refl
+extra-day true false = refl
+extra-day false b = refl
 
--- the greatest length is computed
-pub plain-le : (i : ℕ) → getD lengths i 0 ≤ 31
-unfolding most
-plain-le i = below-most lengths i
-
-pub next-month : (y m : ℕ) → 1 ≤ m → monthsTo y (m - 1) + monthDays y m ≡ monthsTo y (m + 1 - 1)
-unfolding monthsTo
-next-month y m h =
-    let e : m ≡ suc (m - 1) = omega arith in
-    let f : m + 1 - 1 ≡ suc (m - 1) = omega arith in
-    rw f (ap (λ (k : ℕ). monthsTo y (m - 1) + monthDays y k) e)
+pub extra-le : (b : Bool) → boolByte b ≤ 1
+extra-le true = omega arith
+extra-le false = omega arith

@@ -1,12 +1,43 @@
--- The days of the years from 0 on: 365 for each, and one for each leap year.
+-- Leap years, and the days of the years from 0 on: 365 for each, and one for each leap year.
 -- Assumes nothing.
 use mathlib.Core.Path.{_≡_, refl}
 use mathlib.Core.Bool.{cond}
 use Prim.Native.Nat.{ℕ, zero, suc, _+_, _-_, _*_, _/_, _%_, _≤_}
 use native.Mathlib.Omega.{arith}
 use native.Mathlib.Decide.{ℕ-discrete}
+use lib.Dec.{eqb}
 use borrow.Author.Tests.{eq-eqb, ne-eqb}
 use Rattle.calendar.specs.Calendar.{leap, leapDay, plainDays, monthDays, monthsTo, yearsTo}
+
+-- ---- which years are leap years, as the code judges them
+
+module _ (y : ℕ) where
+  by-100 : (k : ℕ) → y ≡ 100 * k → y % 100 ≡ 0
+  by-100 k e = omega arith
+
+  by-400 : (k : ℕ) → y ≡ 400 * k → y % 400 ≡ 0
+  by-400 k e = omega arith
+
+  pub by-16 : y % 25 ≡ 0 → eqb (y % 16) 0 ≡ leap y
+  unfolding leap
+  by-16 h = go (ℕ-discrete (y % 16) 0) (ℕ-discrete (y % 100) 0)
+    where
+      go : Dec (y % 16 ≡ 0) → Dec (y % 100 ≡ 0) → eqb (y % 16) 0 ≡ leap y
+      go (yes p) q = let e : y % 400 ≡ 0 = by-400 (9 * (y / 16) - 14 * (y / 25)) (omega arith) in simp eq-eqb
+      go (no p) (yes q) = let e : y % 400 ≡ 0 → ⊥ = (λ z. omega arith) in simp (ne-eqb, eq-eqb)
+      go (no p) (no q) =
+          let e : y % 400 ≡ 0 → ⊥ = (λ z. omega arith) in
+          let f : y % 4 ≡ 0 → ⊥ = (λ z. q (by-100 (y / 4 - 6 * (y / 25)) (omega arith))) in
+          simp ne-eqb
+
+  pub by-4 : (y % 25 ≡ 0 → ⊥) → eqb (y % 4) 0 ≡ leap y
+  unfolding leap
+  by-4 h =
+      let e : y % 400 ≡ 0 → ⊥ = (λ z. omega arith) in
+      let f : y % 100 ≡ 0 → ⊥ = (λ z. omega arith) in
+      simp ne-eqb
+
+-- ---- the days of the years
 
 -- the leap years before the year n
 unfoldable leaps : ℕ → ℕ
@@ -49,6 +80,8 @@ years zero = refl
 years (suc y) = next-year y (years y)
 
 -- the days as the code counts them
-pub counted : (y : ℕ) → 365 * y + (y + 3) / 4 - (y + 99) / 100 + (y + 399) / 400 ≡ yearsTo y
+pub counted : (y : ℕ) → 365 * y + (y + 3) / 4 - (y + 99) / 100 + ((y + 99) / 100 + 3) / 4 ≡ yearsTo y
 unfolding leaps
-counted y = rw years (omega (arith, fewer y))
+counted y =
+    let e : ((y + 99) / 100 + 3) / 4 ≡ (y + 399) / 400 = omega arith in
+    rw (years, e) (omega (arith, fewer y))

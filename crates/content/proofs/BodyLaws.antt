@@ -4,7 +4,7 @@ use Prim.Native.Nat.{ℕ, _+_, _-_, _≤_, _<_}
 use mathlib.Core.Path.{_≡_, refl, sym, ap, _∙_}
 use mathlib.Core.Logic.{_↔_}
 use mathlib.Core.Bool.{true}
-use mathlib.Core.List.{List}
+use mathlib.Core.List.{List, []}
 use native.Mathlib.Omega.{arith}
 use lib.Dec.{T}
 use lib.ListN.{length, length-drop}
@@ -20,7 +20,7 @@ use Rattle.framing.proofs.FormatLaws.{lawful, good-known, body-fits}
 use Rattle.framing.proofs.FrameLaws.{frame-means}
 use Rattle.framing.proofs.Length.{Within, whole-within, longest-pending}
 use Rattle.content.specs.Answer.{given}
-use Rattle.content.specs.Body.{spans, isFrame, placeOf, bodyOf}
+use Rattle.content.specs.Body.{spans, isFrame, placeOf, bodyOf, betweenOf}
 use Rattle.content.proofs.AnswerLaws.{passes}
 
 -- ---- the test
@@ -71,15 +71,36 @@ module _ (f : Format) {l : Layout} (e : l ≡ layoutOf f) where
   unfolding layoutOf bodyEnd
   tail-is = ap (λ (x : Layout). x .tail) e
 
--- a bytes before the body of a frame, and e after it
+  -- together they are at most the shortest frame
+  pub ends-fit : l .head + l .tail ≤ l .shortest
+  unfolding layoutOf shortest
+  ends-fit =
+      let n : l .shortest ≡ shortest f = ap (λ (x : Layout). x .shortest) e in
+      omega (arith, head-is, tail-is, body-fits f)
+
+-- Who has judged the frame finds its body between its head and its tail.
+pub body-between : (f : Format) (s : List ℕ) → isFrame f s ≡ true → betweenOf f s ≡ bodyOf f s
+unfolding bodyOf betweenOf
+body-between f s h = rw h
+
+-- a bytes before the body of a format, and e after it
+module _ (f : Format) (s : List ℕ) {a e : ℕ} (p : a ≡ bodyStart f) (q : e ≡ bodyEnd f) where
+  pub between-at : part a (length s - e) s ≡ betweenOf f s
+  unfolding betweenOf
+  between-at = rw (p, q)
+
+  pub no-room : length s < a + e → [] ≡ betweenOf f s
+  unfolding betweenOf
+  no-room h = let z : length s - bodyEnd f - bodyStart f ≡ 0 = omega arith in rw z
+
+-- the same of a frame
 module _ (f : Format) (s : List ℕ) {a e : ℕ} (h : isFrame f s ≡ true) (p : a ≡ bodyStart f) (q : e ≡ bodyEnd f) where
   pub place-at : given (record { start = a; end = length s - e }) ≡ placeOf f s
   unfolding placeOf
   place-at = rw (p, q) (passes _ _ h)
 
   pub body-at : part a (length s - e) s ≡ bodyOf f s
-  unfolding bodyOf
-  body-at = rw (p, q, h)
+  body-at = between-at f s p q ∙ body-between f s h
 
 -- how long it is
 part-length : (a e : ℕ) (s : List ℕ) → a ≤ e → e ≤ length s → length (part a e s) ≡ e - a

@@ -42,3 +42,8 @@ placeOf f s = unless nowhere (isFrame f s) 7 (given (record { start = bodyStart 
 -- the bytes of the body, and none where they are not one frame
 unfoldable pub bodyOf : Format → List ℕ → List ℕ
 bodyOf f s = cond (isFrame f s) (part (bodyStart f) (length s - bodyEnd f) s) []
+
+-- the bytes between the head and the tail of a format: of a frame, its body. Fewer bytes than both have none; an unknown format has
+-- neither, so all bytes are between.
+unfoldable pub betweenOf : Format → List ℕ → List ℕ
+betweenOf f s = part (bodyStart f) (length s - bodyEnd f) s

@@ -2,7 +2,7 @@
 ghost use mathlib.Core.Path.{_≡_};
 ghost use Rattle.framing.specs.Format.{formatOf};
 ghost use Rattle.content.specs.Answer.{refusalNumber};
-ghost use Rattle.content.specs.Body.{isFrame, placeAnswer, placeOf, bodyOf};
+ghost use Rattle.content.specs.Body.{isFrame, placeAnswer, placeOf, bodyOf, betweenOf};
 use calendar::Clock;
 use framing::run;
 
@@ -28,7 +28,7 @@ pub enum NumberReading {
     Refused(Refusal),
 }
 
-// Whether a reading was done, where its value is an array and stands beside.
+// Whether a reading was done, where its value is an array that is returned beside it.
 pub enum Judged {
     Done,
     Refused(Refusal),
@@ -81,6 +81,20 @@ pub fn locate(format: u32, s: &[u8]) -> Place
     Place::At { start, end }
 }
 
+// The bytes between the head and the tail of a format: the body, where the slice is a frame. No frame is judged.
+pub fn between(format: u32, s: &[u8]) -> &[u8]
+    ensures { λ r. ⌜ now r ≡ betweenOf (formatOf format) (now (s .entry)) ⌝ }
+{
+    let l = framing::layout_of(format);
+    let start = l.head;
+    let tail = l.tail;
+    if s.len() < start + tail {
+        return &s[0..0];
+    }
+    let end = s.len() - tail;
+    &s[start..end]
+}
+
 // The body itself, a part of the slice; none where the slice is not one frame.
 pub fn body(format: u32, s: &[u8]) -> &[u8]
     ensures { λ r. ⌜ now r ≡ bodyOf (formatOf format) (now (s .entry)) ⌝ }
@@ -88,8 +102,5 @@ pub fn body(format: u32, s: &[u8]) -> &[u8]
     if !is_frame(format, s) {
         return &s[0..0];
     }
-    let l = framing::layout_of(format);
-    let start = l.head;
-    let end = s.len() - l.tail;
-    &s[start..end]
+    between(format, s)
 }

@@ -1,13 +1,13 @@
 -- Frames one behind the other, as code goes through them.
 -- Assumes nothing.
-use Prim.Native.Nat.{ℕ, zero, suc, _+_, _-_, _≤_, _<_}
+use Prim.Native.Nat.{ℕ, zero, suc, _+_, _-_, _≤_, _<_, min}
 use mathlib.Core.Path.{_≡_, refl, sym, ap, _∙_, subst}
 use mathlib.Core.Bool.{Bool, true, false}
-use mathlib.Core.List.{List}
+use mathlib.Core.List.{List, [], _∷_}
 use native.Mathlib.Omega.{arith}
-use native.Mathlib.Nat.{zero-add, add-zero, sub-zero}
+use native.Mathlib.Nat.{zero-add, add-zero, sub-zero, zero-sub}
 use lib.ListN.{length, take, drop, length-drop}
-use lib.Seq.{take-all, drop-drop}
+use lib.Seq.{take-all, take-nil, drop-drop}
 use Rattle.framing.specs.declared.Reason.{Reason}
 use Rattle.framing.specs.declared.Found.{Found}
 use Rattle.framing.specs.declared.Found.the-variants.{Frame, Start, Neither}
@@ -25,6 +25,23 @@ behind a k r = record { bytes = a + r .bytes; frames = k + r .frames; waits = r 
 -- `&s[a..]`
 pub tail : (s : List ℕ) (a : ℕ) → take (length s - a) (drop a s) ≡ drop a s
 tail s a = take-all (length s - a) (drop a s) (simp length-drop (omega arith))
+
+-- the first bytes, and what stands behind a of them
+drop-first : (a e : ℕ) (s : List ℕ) → take (e - a) (drop a s) ≡ drop a (take e s)
+drop-first zero e s = rw (sub-zero e)
+drop-first (suc a) zero s = rw (zero-sub (suc a))
+drop-first (suc a) (suc e) [] = take-nil (suc e - suc a)
+drop-first (suc a) (suc e) (x ∷ s) = let m : suc e - suc a ≡ e - a = omega arith in rw m (drop-first a e s)
+
+-- the first bytes of `&s[a..]`
+pub tail-within : (s : List ℕ) (a e : ℕ) → take (e - a) (take (length s - a) (drop a s)) ≡ drop a (take e s)
+tail-within s a e = rw (tail s a) (drop-first a e s)
+
+-- more bytes than there are, are all
+pub take-least : (s : List ℕ) (e : ℕ) → take (min (length s) e) s ≡ take e s
+take-least [] e = take-nil (min 0 e) ∙ sym (take-nil e)
+take-least (x ∷ s) zero = let z : min (length (x ∷ s)) 0 ≡ 0 = omega arith in rw z
+take-least (x ∷ s) (suc e) = let m : min (length (x ∷ s)) (suc e) ≡ suc (min (length s) e) = omega arith in rw m (ap (λ r. x ∷ r) (take-least s e))
 
 -- how far the code is: at place a, behind k frames
 pub record Led (f : Format) (s : List ℕ) (most a k : ℕ) : Type 0 where

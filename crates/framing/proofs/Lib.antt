@@ -11,9 +11,11 @@ pub mod LeadLaws
 pub mod Length
 pub mod LineLaws
 pub mod MglLaws
+pub mod GrowthLaws
 pub mod NmeaLaws
 pub mod OnflightLaws
 pub mod ReadingLaws
+pub mod RowLaws
 pub mod RunLaws
 pub mod ShapeLaws
 pub mod StartLaws

@@ -1,14 +1,14 @@
 -- MGL: a scan through the head, as code goes through it, and what its rules owe.
 -- Assumes nothing.
 use Prim.Native.Nat.{ℕ, zero, suc, _+_, _-_, _≤_, _<_}
-use mathlib.Core.Path.{_≡_, refl, ap, _∙_}
-use mathlib.Core.Logic.{inl}
+use mathlib.Core.Path.{_≡_, refl, sym, ap, _∙_}
+use mathlib.Core.Logic.{_⊎_, inl, inr}
 use mathlib.Core.Bool.{Bool, true, false, cond}
 use mathlib.Core.List.{List}
 use native.Mathlib.Omega.{arith}
 use lib.Dec.{leb, ltb, eqb, eqb→eq}
 use lib.ListN.{length, getD, drop}
-use borrow.Author.Tests.{ltb-true, ltb-false, eq-eqb, ne-eqb}
+use borrow.Author.Tests.{ltb-true, ltb-false, eqb-true, eqb-false, eq-eqb, ne-eqb}
 use Rattle.framing.specs.declared.Reason.the-variants.{HeaderByte}
 use Rattle.framing.specs.declared.Scanned.the-variants.{Whole, Partial, Broken}
 use Rattle.framing.specs.Rules.{more}
@@ -16,6 +16,7 @@ use Rattle.framing.specs.Mgl.{lengthOf, mglNext}
 use Rattle.framing.specs.Format.{mgl, known, first, shortest, longest, pendingBound, bodyStart, bodyEnd, next}
 use Rattle.framing.specs.Shape.{scanFrom}
 use Rattle.framing.specs.Meaning.{IsByte}
+use Rattle.framing.specs.Private.{toldLength}
 use Rattle.framing.proofs.ShapeLaws.{scan-end, scan-bad, scan-more, CountsFrom, counted-at, from-four}
 use Rattle.framing.proofs.HeadLaws.{StartsWith}
 use Rattle.framing.proofs.Lawful.{After, must-after, Completes, one-more, Lawful, Below, Counted, upTo-after, counted-bound, the-missing, head-completes}
@@ -98,3 +99,13 @@ mgl-lawful =
       in-order = omega arith;
       most = omega arith;
     }
+
+-- what the length byte tells
+pub told : (s : List ℕ) (n : ℕ) → n ≡ toldLength s
+    → ((n ≡ 0) × (getD s 2 0 + getD s 3 0 ≡ 255 → ⊥)) ⊎ ((getD s 2 0 + getD s 3 0 ≡ 255) × (lengthOf (getD s 2 0) + 20 ≡ n))
+told s n e = go (eqb (getD s 2 0 + getD s 3 0) 255) refl e
+  where
+    go : (b : Bool) → eqb (getD s 2 0 + getD s 3 0) 255 ≡ b → n ≡ cond b (lengthOf (getD s 2 0) + 20) 0
+        → ((n ≡ 0) × (getD s 2 0 + getD s 3 0 ≡ 255 → ⊥)) ⊎ ((getD s 2 0 + getD s 3 0 ≡ 255) × (lengthOf (getD s 2 0) + 20 ≡ n))
+    go true t k = inr (eqb-true (getD s 2 0 + getD s 3 0) 255 t, sym k)
+    go false t k = inl (k, eqb-false (getD s 2 0 + getD s 3 0) 255 t)

@@ -1,6 +1,7 @@
 -- What the contracts of `framing` cite: the formats, their shapes and frames, and the two readings of a line.
 pub mod Format
 pub mod Frame
+pub mod Growth
 pub mod Idle
 pub mod Leading
 pub mod Meaning

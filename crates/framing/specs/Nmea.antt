@@ -1,7 +1,7 @@
 -- Document 01's NMEA sentences (docs/FORMATS.md, "NMEA sentences"): `$`, 1 to 76 body bytes, `*`, two digits, CR, LF.
 use Prim.Native.Nat.{ℕ, zero, suc, _+_, _-_, _*_}
 use mathlib.Core.Bool.{Bool, true, cond, not, _&&_, _||_}
-use mathlib.Core.List.{List}
+use mathlib.Core.List.{List, [], _∷_}
 use lib.Dec.{leb, ltb, eqb}
 use lib.ListN.{length, getD}
 use Rattle.checksum.specs.Xor.{xorOf}
@@ -32,6 +32,15 @@ nmeaNext (suc n) (suc zero) b = must (hexDigit b) (more 2) Ending
 nmeaNext (suc n) (suc (suc zero)) b = must (hexDigit b) (more 3) Ending
 nmeaNext (suc n) (suc (suc (suc zero))) b = must (eqb b 0x0D) (more 4) Ending
 nmeaNext (suc n) (suc (suc (suc (suc m)))) b = must (eqb b 0x0A) done Ending
+
+-- 1 for a comma, and else 0
+abbrev pub comma : ℕ → ℕ
+comma b = cond (eqb b 0x2C) 1 0
+
+-- how many bytes are commas
+unfoldable pub commaCount : List ℕ → ℕ
+commaCount [] = 0
+commaCount (b ∷ s) = comma b + commaCount s
 
 -- the exclusive or of the body, in two digits before CR and LF
 abbrev pub nmeaGood : List ℕ → Bool

@@ -3,15 +3,19 @@ mod masked;
 pub mod mgl;
 pub mod nmea;
 pub mod onflight;
+mod rows;
 pub mod run;
 mod search;
 mod shape;
 
 ghost use mathlib.Core.Path.{_≡_};
+ghost use Prim.Native.Nat.{_≤_};
+ghost use lib.ListN.{length, take};
 ghost use Rattle.framing.specs.Rules.{noRules};
 ghost use Rattle.framing.specs.Format.{formatOf, layoutOf, known};
 ghost use Rattle.framing.specs.Frame.{front};
 ghost use Rattle.framing.specs.Idle.{idle};
+ghost use Rattle.framing.specs.Growth.{Grown};
 
 // Why the bytes from a position on are no frame, by the earliest byte at which they stop being the start of a shape.
 pub enum Reason {
@@ -54,13 +58,23 @@ pub struct Layout {
     // How many bytes the shortest frame has, and the longest.
     pub shortest: u32,
     pub longest: u32,
-    // How many bytes of a frame stand before its body, and after it.
+    // How many bytes of a frame precede its body, and follow it.
     pub head: usize,
     pub tail: usize,
 }
 
-// ---- The formats, each in a file of its own. `layout_of`, `front` and `idle` have a row for each, and no other code of
-// this crate asks which format it has.
+// What more bytes make of a proper start.
+pub enum Growth {
+    // A proper start again.
+    Grows,
+    // Something else, or it is not known what; it was a proper start before.
+    Waits,
+    // It is not known whether it was one.
+    Unsaid,
+}
+
+// ---- The formats, each in a file of its own. `layout_of`, `front_within` and `idle` have a row for each, `growth_of` may have one, and
+// no other code of this crate matches on the format.
 
 fn no_layout() -> Layout
     ensures { λ r. ⌜ r ≡ noRules .layout ⌝ }
@@ -86,16 +100,24 @@ pub fn layout_of(format: u32) -> Layout
     }
 }
 
-// What a slice begins with, for every format number.
+// What the first `end` bytes begin with, for every format number.
+fn front_within(format: u32, s: &[u8], end: usize) -> Found
+    requires { ⌜ end ≤ length (now s) ⌝ }
+    ensures { λ r. ⌜ r ≡ front (formatOf format) (take end (now (s .entry))) ⌝ }
+{
+    match format {
+        1 => mgl::front(&s[..end]),
+        2 => onflight::front(&s[..end]),
+        3 => nmea::front(s, end),
+        _ => shape::nothing(end),
+    }
+}
+
+// What a slice begins with.
 pub fn front(format: u32, s: &[u8]) -> Found
     ensures { λ r. ⌜ r ≡ front (formatOf format) (now (s .entry)) ⌝ }
 {
-    match format {
-        1 => mgl::front(s),
-        2 => onflight::front(s),
-        3 => nmea::front(s),
-        _ => shape::nothing(s.len()),
-    }
+    front_within(format, s, s.len())
 }
 
 // How many bytes from the start on begin no shape of a format: a reading skips them one by one.
@@ -107,6 +129,21 @@ pub fn idle(format: u32, s: &[u8]) -> usize
         2 => search::bytes_before(s, onflight::FIRST),
         3 => search::bytes_before(s, nmea::FIRST),
         _ => s.len(),
+    }
+}
+
+// What `bytes` make of the first `end` bytes of s, if they follow them. A format without a row says nothing, and is only slower.
+pub fn growth_of(format: u32, s: &[u8], end: usize, bytes: &[u8]) -> Growth
+    ensures { λ g. ⌜ Grown (formatOf format) (take end (now (s .entry))) (now (bytes .entry)) g ⌝ }
+{
+    if s.len() < end {
+        return Growth::Unsaid;
+    }
+    match format {
+        1 => mgl::growth_of(&s[..end], bytes.len()),
+        2 => onflight::growth_of(&s[..end], bytes.len()),
+        3 => nmea::growth_of(s, end, bytes),
+        _ => Growth::Unsaid,
     }
 }
 

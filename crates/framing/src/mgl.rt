@@ -1,5 +1,6 @@
 // MGL frames: 05 02, a length, its complement, and as many bytes more as the length says.
 use super::Found;
+use super::Growth;
 use super::Layout;
 use super::Reason;
 use super::Scanned;
@@ -10,6 +11,7 @@ ghost use lib.ListN.{length};
 ghost use Rattle.framing.specs.Mgl.{mglRules};
 ghost use Rattle.framing.specs.Format.{mgl, shortest, good};
 ghost use Rattle.framing.specs.Shape.{scan};
+ghost use Rattle.framing.specs.Private.{toldLength, Needs, GrownBy};
 ghost use Rattle.framing.specs.Frame.{front};
 
 // The byte that every frame starts with.
@@ -31,6 +33,21 @@ pub(crate) fn layout() -> Layout
     }
 }
 
+// How many bytes a frame has by its length byte; 0 where the complement is wrong.
+fn length_told(s: &[u8]) -> usize
+    requires { ⌜ 4 ≤ length (now s) ⌝ }
+    ensures { λ n. ⌜ n ≡ toldLength (now (s .entry)) ⌝ }
+{
+    let l = s[2] as usize;
+    if l + s[3] as usize != 255 {
+        return 0;
+    }
+    if l == 0 {
+        return LONGEST as usize;
+    }
+    l + 20
+}
+
 fn scan(s: &[u8]) -> Scanned
     ensures { λ r. ⌜ r ≡ scan mgl (now (s .entry)) ⌝ }
 {
@@ -41,14 +58,11 @@ fn scan(s: &[u8]) -> Scanned
     if s.len() < 4 {
         return Scanned::Partial;
     }
-    let l = s[2] as usize;
-    if l + s[3] as usize != 255 {
+    let n = length_told(s);
+    if n == 0 {
         return Scanned::Broken(Reason::HeaderByte);
     }
-    if l == 0 {
-        return shape::counted(s.len(), LONGEST as usize);
-    }
-    shape::counted(s.len(), l + 20)
+    shape::counted(s.len(), n)
 }
 
 // Whether the checksum of a whole MGL shape is right.
@@ -68,4 +82,28 @@ pub(crate) fn front(s: &[u8]) -> Found
         Scanned::Partial => Found::Start,
         Scanned::Broken(r) => Found::Neither(r),
     }
+}
+
+// How many bytes the frame has whose head s begins with; 0 where none is there.
+fn need(s: &[u8]) -> usize
+    requires { ⌜ 4 ≤ length (now s) ⌝ }
+    ensures { λ m. ⌜ Needs mgl (now (s .entry)) m ⌝ }
+{
+    if s[0] != FIRST {
+        return 0;
+    }
+    if s[1] != 0x02 {
+        return 0;
+    }
+    length_told(s)
+}
+
+// What so many bytes more make of a start.
+pub(crate) fn growth_of(s: &[u8], more: usize) -> Growth
+    ensures { λ g. ⌜ GrownBy mgl (now (s .entry)) more g ⌝ }
+{
+    if s.len() < 4 {
+        return Growth::Unsaid;
+    }
+    shape::told(s.len(), more, need(s))
 }

@@ -1,5 +1,6 @@
 // OnFlight frames: 42 46, version 1, payload length 152, and as many bytes more.
 use super::Found;
+use super::Growth;
 use super::Layout;
 use super::Reason;
 use super::Scanned;
@@ -10,6 +11,7 @@ ghost use lib.ListN.{length};
 ghost use Rattle.framing.specs.Onflight.{onflightRules};
 ghost use Rattle.framing.specs.Format.{onflight, shortest, good};
 ghost use Rattle.framing.specs.Shape.{scan};
+ghost use Rattle.framing.specs.Private.{Needs, GrownBy};
 ghost use Rattle.framing.specs.Frame.{front};
 
 // The byte that every frame starts with.
@@ -74,4 +76,34 @@ pub(crate) fn front(s: &[u8]) -> Found
         Scanned::Partial => Found::Start,
         Scanned::Broken(r) => Found::Neither(r),
     }
+}
+
+// How many bytes the frame has whose head s begins with; 0 where none is there.
+fn need(s: &[u8]) -> usize
+    requires { ⌜ 4 ≤ length (now s) ⌝ }
+    ensures { λ m. ⌜ Needs onflight (now (s .entry)) m ⌝ }
+{
+    if s[0] != FIRST {
+        return 0;
+    }
+    if s[1] != 0x46 {
+        return 0;
+    }
+    if s[2] != 0x01 {
+        return 0;
+    }
+    if s[3] != 0x98 {
+        return 0;
+    }
+    LONGEST as usize
+}
+
+// What so many bytes more make of a start.
+pub(crate) fn growth_of(s: &[u8], more: usize) -> Growth
+    ensures { λ g. ⌜ GrownBy onflight (now (s .entry)) more g ⌝ }
+{
+    if s.len() < 4 {
+        return Growth::Unsaid;
+    }
+    shape::told(s.len(), more, need(s))
 }

@@ -1,7 +1,10 @@
-// Frames that stand one behind the other. All that reads frames asks here, since `front` is compiled in only where it is called at one
-// place of the code.
+// Consecutive frames. `lead` is the only caller of `front_within` in the archive, which has no `front`: the compiler inlines `front_within`
+// only where it has one caller in what a program reaches.
 use super::Found;
+use super::shape;
 ghost use mathlib.Core.Path.{_≡_};
+ghost use Prim.Native.Nat.{_≤_};
+ghost use lib.ListN.{length, take};
 ghost use Rattle.framing.specs.Format.{formatOf};
 ghost use Rattle.framing.specs.Frame.{front};
 ghost use Rattle.framing.specs.Leading.{leadOf, frameLength};
@@ -14,29 +17,32 @@ pub struct Run {
     pub waits: bool,
 }
 
-// The frames that s begins with, at most so many, up to a byte that begins none.
-pub fn leading(format: u32, s: &[u8], most: usize) -> Run
-    ensures { λ r. ⌜ r ≡ leadOf (formatOf format) most (now (s .entry)) ⌝ }
+// The frames that the first `end` bytes begin with, at most so many, up to a byte that begins none. Later bytes may be read, for speed;
+// they change nothing.
+fn lead(format: u32, s: &[u8], end: usize, most: usize) -> Run
+    requires { ⌜ end ≤ length (now s) ⌝ }
+    ensures { λ r. ⌜ r ≡ leadOf (formatOf format) most (take end (now (s .entry))) ⌝ }
 {
     let mut at = 0;
-    let mut frames = 0;
-    while frames < most {
-        match super::front(format, &s[at..]) {
+    // Counted down, so that the loop has one number less to keep.
+    let mut more = most;
+    while 0 < more {
+        match super::front_within(format, &s[at..], end - at) {
             Found::Frame(n) => {
                 at += n;
-                frames += 1;
+                more -= 1;
             }
             Found::Start => {
                 return Run {
                     bytes: at,
-                    frames: frames,
+                    frames: most - more,
                     waits: true,
                 };
             }
             Found::Neither(_) => {
                 return Run {
                     bytes: at,
-                    frames: frames,
+                    frames: most - more,
                     waits: false,
                 };
             }
@@ -44,9 +50,23 @@ pub fn leading(format: u32, s: &[u8], most: usize) -> Run
     }
     Run {
         bytes: at,
-        frames: frames,
+        frames: most - more,
         waits: false,
     }
+}
+
+// The frames that s begins with, at most so many, up to a byte that begins none.
+pub fn leading(format: u32, s: &[u8], most: usize) -> Run
+    ensures { λ r. ⌜ r ≡ leadOf (formatOf format) most (now (s .entry)) ⌝ }
+{
+    lead(format, s, s.len(), most)
+}
+
+// The same of the first `end` bytes, or of all where there are fewer.
+pub fn leading_within(format: u32, s: &[u8], end: usize, most: usize) -> Run
+    ensures { λ r. ⌜ r ≡ leadOf (formatOf format) most (take end (now (s .entry))) ⌝ }
+{
+    lead(format, s, shape::min_usize(s.len(), end), most)
 }
 
 // The length of the frame that s begins with, or 0.

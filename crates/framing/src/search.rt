@@ -1,4 +1,4 @@
-// How many bytes stand before the first of a kind: in blocks of 64 while there are whole ones, and then byte by byte.
+// How many bytes come before the first of a kind: in blocks of 64 while there are whole ones, and then byte by byte.
 ghost use mathlib.Core.Path.{_≡_};
 ghost use mathlib.Core.Bool.{cond};
 ghost use Prim.Native.Nat.{_+_, _≤_};
@@ -15,7 +15,7 @@ fn found_at(i: u8, b: u8, first: u8) -> u8
     64
 }
 
-// How many of 64 bytes stand before the first that is `first`: the least of 64 numbers, as in `shape::block`.
+// How many of 64 bytes come before the first that is `first`: the least of 64 numbers, as in `shape::block`.
 fn block_before(s: &[u8], from: usize, first: u8) -> u8
     requires { ⌜ from + 64 ≤ length (now s) ⌝ }
     ensures { λ r. ⌜ (r ≤ 64) × Each (differs first) from (from + r) (now (s .entry)) ⌝ }
@@ -51,7 +51,7 @@ fn blocks_before(s: &[u8], first: u8) -> usize
     k
 }
 
-// How many bytes stand before the first that is `first`.
+// How many bytes come before the first that is `first`.
 pub(crate) fn bytes_before(s: &[u8], first: u8) -> usize
     ensures { λ r. ⌜ r ≡ before first (now (s .entry)) ⌝ }
 {

@@ -1,15 +1,16 @@
 // What the shapes of several formats share.
 use super::Found;
+use super::Growth;
 use super::Reason;
 use super::Scanned;
 ghost use mathlib.Core.Path.{_≡_};
 ghost use mathlib.Core.Bool.{cond};
-ghost use Prim.Native.Nat.{min};
+ghost use Prim.Native.Nat.{min, _+_};
 ghost use lib.Dec.{leb, eqb};
 ghost use Rattle.framing.specs.declared.Scanned.the-variants.{Whole, Partial};
 ghost use Rattle.framing.specs.declared.Found.the-variants.{Frame, Start, Neither};
 ghost use Rattle.framing.specs.declared.Reason.the-variants.{StartByte, Checksum};
-ghost use Rattle.framing.specs.Private.{syncOf};
+ghost use Rattle.framing.specs.Private.{syncOf, toldBy};
 
 // The two fixed bytes that a binary frame starts with.
 pub(crate) fn sync(s: &[u8], first: u8, second: u8) -> Scanned
@@ -40,6 +41,15 @@ pub(crate) fn counted(n: usize, m: usize) -> Scanned
     Scanned::Partial
 }
 
+pub(crate) fn min_usize(a: usize, b: usize) -> usize
+    ensures { λ r. ⌜ r ≡ min a b ⌝ }
+{
+    if a < b {
+        return a;
+    }
+    b
+}
+
 pub(crate) fn min_u8(a: u8, b: u8) -> u8
     ensures { λ r. ⌜ r ≡ min a b ⌝ }
 {
@@ -67,4 +77,17 @@ pub(crate) fn judged(good: bool, n: usize) -> Found
         return Found::Frame(n);
     }
     Found::Neither(Reason::Checksum)
+}
+
+// What `more` bytes make of n bytes whose frame has m bytes: fewer than m are a proper start. m is 0 where no frame is known.
+pub(crate) fn told(n: usize, more: usize, m: usize) -> Growth
+    ensures { λ g. ⌜ g ≡ toldBy n more m ⌝ }
+{
+    if m <= n {
+        return Growth::Unsaid;
+    }
+    if more < m - n {
+        return Growth::Grows;
+    }
+    Growth::Waits
 }

@@ -1,55 +1,65 @@
 -- A reader's bytes: what the code lays and reads, and that they are read back as the reader. Assumes nothing.
-use Prim.Native.Nat.{ℕ, _-_, _≤_}
+use Prim.Native.Nat.{ℕ, _≤_}
 use mathlib.Core.Path.{_≡_, refl, ap, _∙_}
 use mathlib.Core.Bool.{Bool, true, false, not}
 use mathlib.Core.List.{List, [], _++_, append-nil}
 use native.Mathlib.Omega.{arith}
 use lib.Dec.{eqb}
-use lib.ListN.{length, take, drop, replicate, length-drop}
-use lib.Seq.{take-all, drop-length}
+use lib.ListN.{length, drop, length-append, length-drop, drop-of-length-le}
+use lib.Seq.{take-all}
 use Rattle.numbers.specs.Low.{low, lowBytes}
 use Rattle.numbers.proofs.LowBytes.{low-lowBytes}
-use Rattle.room.specs.Room.{copied}
-use Rattle.room.proofs.RoomLaws.{copied-behind, start-copied}
+use Rattle.room.specs.Room.{lay, copied}
+use Rattle.room.proofs.RoomLaws.{copied-behind, start-copied, lay-copied}
 use Rattle.reader.specs.declared.Reader.{Reader as State}
-use Rattle.reader.proofs.HeldLaws.{tail-part, keeps}
+use Rattle.reader.specs.declared.place.Numbers.{Numbers}
+use Rattle.reader.specs.Place.{stateOf}
 use Rattle.lent.specs.Bytes.{readerLength, closedWord, encode, decode}
+use Rattle.lent.specs.Private.{words}
 
 -- ---- what the code reads and lays
 
--- the held bytes, copied over zeros
-pub held-copied : (s : List ℕ) → length s ≡ 295 → copied (take (length s - 20) (drop 20 s)) (replicate 275 0) 0 ≡ take 275 (drop 20 s)
-held-copied s l =
-    let n : length (drop 20 s) ≡ 275 = length-drop 20 s ∙ ap (λ (k : ℕ). k - 20) l in
-    rw (tail-part s 20, keeps (drop 20 s) (omega arith), n, take-all 275 (drop 20 s) (omega arith), append-nil)
-
--- a copy over all of some bytes
-over-all : (b s : List ℕ) → length b ≡ length s → copied b s 0 ≡ b
-over-all b s e = start-copied b s (omega arith) ∙ rw (e, drop-length s, append-nil)
-
--- six copies, one behind the other
-pub encode-copied : (r : State) (s : List ℕ) → length s ≡ 295 → length (r .held) ≡ 275
-    → copied (r .held)
-    (copied (lowBytes 4 (r .pending))
-    (copied (lowBytes 4 (r .skipped))
-    (copied (lowBytes 4 (r .framed))
-    (copied (lowBytes 4 (closedWord (r .closed))) (copied (lowBytes 4 (r .format)) s 0) 4) 8) 12) 16) 20
-    ≡ encode r
-unfolding encode lowBytes
-encode-copied r s l h =
-    let a₁ = lowBytes 4 (r .format) in
-    let a₂ = a₁ ++ lowBytes 4 (closedWord (r .closed)) in
-    let a₃ = a₂ ++ lowBytes 4 (r .framed) in
-    let a₄ = a₃ ++ lowBytes 4 (r .skipped) in
-    let a₅ = a₄ ++ lowBytes 4 (r .pending) in
+-- five copies, one behind the other
+pub words-copied : (n : Numbers) (s : List ℕ) → length s ≡ 295
+    → copied (lowBytes 4 (n .pending))
+    (copied (lowBytes 4 (n .skipped))
+    (copied (lowBytes 4 (n .framed))
+    (copied (lowBytes 4 (closedWord (n .closed))) (copied (lowBytes 4 (n .format)) s 0) 4) 8) 12) 16
+    ≡ words n ++ drop 20 s
+unfolding words lowBytes
+words-copied n s l =
+    let a₁ = lowBytes 4 (n .format) in
+    let a₂ = a₁ ++ lowBytes 4 (closedWord (n .closed)) in
+    let a₃ = a₂ ++ lowBytes 4 (n .framed) in
+    let a₄ = a₃ ++ lowBytes 4 (n .skipped) in
     rw (
-      copied-behind a₁ (lowBytes 4 (closedWord (r .closed))) s 0 4 refl (omega arith),
-      copied-behind a₂ (lowBytes 4 (r .framed)) s 0 8 refl (omega arith),
-      copied-behind a₃ (lowBytes 4 (r .skipped)) s 0 12 refl (omega arith),
-      copied-behind a₄ (lowBytes 4 (r .pending)) s 0 16 refl (omega arith),
-      copied-behind a₅ (r .held) s 0 20 refl (omega arith),
+      copied-behind a₁ (lowBytes 4 (closedWord (n .closed))) s 0 4 refl (omega arith),
+      copied-behind a₂ (lowBytes 4 (n .framed)) s 0 8 refl (omega arith),
+      copied-behind a₃ (lowBytes 4 (n .skipped)) s 0 12 refl (omega arith),
+      copied-behind a₄ (lowBytes 4 (n .pending)) s 0 16 refl (omega arith),
     )
-    (over-all (encode r) s (omega arith))
+    (start-copied (words n) s (omega arith))
+
+pub length-words : (n : Numbers) → length (words n) ≡ 20
+unfolding words lowBytes
+length-words n = refl
+
+-- a reader's bytes are its words and its held bytes
+pub encode-words : (n : Numbers) (held : List ℕ) → words n ++ held ≡ encode (stateOf n held)
+unfolding words encode
+encode-words n held = refl
+
+-- the held bytes, copied behind the words
+pub encode-copied : (n : Numbers) (r : State) (s : List ℕ) → length s ≡ 295 → length (r .held) ≡ 275 → stateOf n (r .held) ≡ r
+    → copied (r .held) (words n ++ drop 20 s) 20 ≡ encode r
+encode-copied n r s l h e =
+    let m = length-drop 20 s in
+    let w = length-words n in
+    ap (λ (x : List ℕ). copied (r .held) x 20) {y = lay (words n) s} (rw (w)) ∙ lay-copied (words n) (r .held) s 20 w (omega arith)
+    ∙ ap (λ (x : List ℕ). words n ++ r .held ++ x) (drop-of-length-le s {i = length (words n ++ r .held)} (omega (arith, length-append (words n) (r .held))))
+    ∙ append-nil (words n ++ r .held)
+    ∙ encode-words n (r .held)
+    ∙ ap encode e
 
 -- ---- back
 

@@ -1,17 +1,25 @@
--- What a private function promises. Nothing public rests on this definition.
+-- What private functions promise. Nothing public rests on these definitions.
 use Prim.Native.Nat.{ℕ}
 use mathlib.Core.Path.{_≡_}
 use mathlib.Core.Bool.{cond}
-use mathlib.Core.List.{List}
+use mathlib.Core.List.{List, _++_}
 use lib.Dec.{eqb}
-use Rattle.reader.specs.declared.Outcome.{Outcome}
-use Rattle.lent.specs.Bytes.{encode}
+use lib.ListN.{drop}
+use Rattle.numbers.specs.Low.{lowBytes}
+use Rattle.reader.specs.declared.place.Numbers.{Numbers}
+use Rattle.reader.specs.declared.place.Advance.{Advance}
+use Rattle.lent.specs.Bytes.{closedWord}
 
--- the reader's bytes after a call that answered o: those of its reader, or as they were if it was refused
-abbrev pub bytesAfter : Outcome → List ℕ → List ℕ
-bytesAfter o bs = cond (eqb (o .answer) 0) (encode (o .reader)) bs
+-- a reader's five words
+unfoldable pub words : Numbers → List ℕ
+words n =
+    lowBytes 4 (n .format)
+    ++ lowBytes 4 (closedWord (n .closed))
+    ++ lowBytes 4 (n .framed)
+    ++ lowBytes 4 (n .skipped)
+    ++ lowBytes 4 (n .pending)
 
--- what `settle` answers and leaves
-pub record Settled (o : Outcome) (before : List ℕ) (answer : ℕ) (after : List ℕ) : Type 0 where
-  pub answered : answer ≡ o .answer
-  pub left : after ≡ bytesAfter o before
+-- what `settle` answers and leaves: the held bytes are left already
+pub record Settled (a : Advance) (before : List ℕ) (answer : ℕ) (after : List ℕ) : Type 0 where
+  pub answered : answer ≡ a .answer
+  pub left : after ≡ cond (eqb (a .answer) 0) (words (a .numbers) ++ drop 20 before) before

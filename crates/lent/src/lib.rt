@@ -1,17 +1,20 @@
 // A reader as bytes that a caller lends: for callers in other languages, which keep it.
-use reader::Outcome;
 use reader::Reader;
+use reader::place;
+use reader::place::Advance;
+use reader::place::Numbers;
 ghost use mathlib.Core.Path.{_≡_};
-ghost use mathlib.Core.List.{[]};
+ghost use mathlib.Core.List.{[], _++_};
 ghost use Prim.Native.Nat.{_+_, _≤_};
 ghost use lib.ListN.{length, take, drop};
 ghost use Rattle.numbers.specs.Low.{low};
 ghost use Rattle.reader.specs.Calls.{aPiece, aClose};
+ghost use Rattle.reader.specs.Place.{stateOf};
 ghost use Rattle.lent.specs.Bytes.{encode, decode};
 ghost use Rattle.lent.specs.Calls.{lent, serveLent, freshLent};
-ghost use Rattle.lent.specs.Private.{Settled};
+ghost use Rattle.lent.specs.Private.{words, Settled};
 
-// Where the held bytes start: behind five words.
+// Where the held bytes start: after five words.
 const HELD_AT: usize = 20;
 
 // How many bytes a reader has.
@@ -19,16 +22,6 @@ pub const READER_LEN: usize = HELD_AT + Reader::HELD;
 
 // The refusal of bytes that hold no reader.
 const NO_READER: u32 = 11;
-
-// The held bytes among a reader's bytes.
-fn held_of(bytes: &[u8]) -> [u8; Reader::HELD]
-    requires { ⌜ length (now bytes) ≡ 295 ⌝ }
-    ensures { λ r. ⌜ r ≡ take 275 (drop 20 (now (bytes .entry))) ⌝ }
-{
-    let mut held = [0u8; Reader::HELD];
-    room::copy(&bytes[HELD_AT..], &mut held, 0);
-    held
-}
 
 // The number of four bytes that are there, so that no length is tested.
 fn word(bytes: &[u8], at: usize) -> u32
@@ -41,19 +34,30 @@ fn word(bytes: &[u8], at: usize) -> u32
         + bytes[at + 3] as u32 * 0x100_0000
 }
 
-// The reader that the bytes say, whatever they are.
-fn decode(bytes: &[u8]) -> Reader
+// The numbers of the reader that the bytes say, whatever they are.
+fn numbers_of(bytes: &[u8]) -> Numbers
     requires { ⌜ length (now bytes) ≡ 295 ⌝ }
-    ensures { λ r. ⌜ r ≡ decode (now (bytes .entry)) ⌝ }
+    ensures { λ n. ⌜ stateOf n (take 275 (drop 20 (now (bytes .entry)))) ≡ decode (now (bytes .entry)) ⌝ }
 {
-    Reader {
+    Numbers {
         format: word(bytes, 0),
         closed: word(bytes, 4) != 0,
         framed: word(bytes, 8),
         skipped: word(bytes, 12),
         pending: word(bytes, 16),
-        held: held_of(bytes),
     }
+}
+
+// Lays a reader's numbers in bytes.
+fn lay(n: Numbers, bytes: &mut [u8])
+    requires { ⌜ length (now bytes) ≡ 295 ⌝ }
+    ensures { λ _. ⌜ now (bytes .exit) ≡ words n ++ drop 20 (now (bytes .entry)) ⌝ }
+{
+    room::copy(&numbers::low_bytes(n.format), bytes, 0);
+    room::copy(&numbers::low_bytes(n.closed as u32), bytes, 4);
+    room::copy(&numbers::low_bytes(n.framed), bytes, 8);
+    room::copy(&numbers::low_bytes(n.skipped), bytes, 12);
+    room::copy(&numbers::low_bytes(n.pending), bytes, 16);
 }
 
 // Lays a reader in bytes.
@@ -61,26 +65,21 @@ fn encode(r: Reader, bytes: &mut [u8])
     requires { ⌜ length (now bytes) ≡ 295 ⌝ }
     ensures { λ _. ⌜ now (bytes .exit) ≡ encode r ⌝ }
 {
-    room::copy(&numbers::low_bytes(r.format), bytes, 0);
-    room::copy(&numbers::low_bytes(r.closed as u32), bytes, 4);
-    room::copy(&numbers::low_bytes(r.framed), bytes, 8);
-    room::copy(&numbers::low_bytes(r.skipped), bytes, 12);
-    room::copy(&numbers::low_bytes(r.pending), bytes, 16);
+    lay(reader::numbers_of(r), bytes);
     let held = r.held;
     room::copy(&held, bytes, HELD_AT);
 }
 
-// An accepted call leaves its reader in the bytes, a refusal leaves them as they are; answers the number.
-fn settle(o: Outcome, bytes: &mut [u8]) -> u32
+// An accepted call leaves its numbers in the bytes, a refusal leaves them as they are; answers the number.
+fn settle(a: Advance, bytes: &mut [u8]) -> u32
     requires { ⌜ length (now bytes) ≡ 295 ⌝ }
-    ensures { λ a. ⌜ Settled o (now (bytes .entry)) a (now (bytes .exit)) ⌝ }
+    ensures { λ k. ⌜ Settled a (now (bytes .entry)) k (now (bytes .exit)) ⌝ }
 {
-    if o.answer != 0 {
-        return o.answer;
+    if a.answer != 0 {
+        return a.answer;
     }
-    let r = o.reader;
-    encode(r, bytes);
-    o.answer
+    lay(a.numbers, bytes);
+    a.answer
 }
 
 // Lays a fresh reader of a format in bytes; of an unknown format the refused one. Bytes of another length are untouched.
@@ -103,8 +102,9 @@ pub fn piece(reader: &mut [u8], bytes: &[u8], room: &mut [u8]) -> u32
     if reader.len() != READER_LEN {
         return NO_READER;
     }
-    let r = decode(reader);
-    settle(r.piece(bytes, room), reader)
+    let n = numbers_of(reader);
+    let a = place::piece(n, &mut reader[HELD_AT..], bytes, room);
+    settle(a, reader)
 }
 
 // Ends the line.
@@ -114,6 +114,7 @@ pub fn close(reader: &mut [u8], room: &mut [u8]) -> u32
     if reader.len() != READER_LEN {
         return NO_READER;
     }
-    let r = decode(reader);
-    settle(r.close(room), reader)
+    let n = numbers_of(reader);
+    let a = place::close(n, &mut reader[HELD_AT..], room);
+    settle(a, reader)
 }

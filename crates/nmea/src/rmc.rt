@@ -113,24 +113,29 @@ pub fn read_clock(s: &[u8]) -> ClockReading
     if let Judged::Refused(r) = judged {
         return ClockReading::Refused(r);
     }
-    let body = content::body(3, s);
-    clock_of(sentence::field(body, 1), sentence::field(body, 9))
+    let body = content::between(3, s);
+    let from = sentence::from_field(body, 1);
+    let time = sentence::field(from, 0);
+    let rest = sentence::after_field(from, time.len());
+    clock_of(time, sentence::field(rest, 7))
 }
 
-// The two angles of a body, each with its hemisphere.
+// The two angles of a body, each with its hemisphere: fields 3 to 6, each found from the one before it.
 fn position_of(body: &[u8]) -> PositionReading
     ensures { λ r. ⌜ positionAnswer r ≡ bodyPosition (now (body .entry)) ⌝ }
 {
-    let Angle::Good(latitude) = super::angle::latitude(
-        sentence::field(body, 3),
-        sentence::field(body, 4),
-    ) else {
+    let from3 = sentence::from_field(body, 3);
+    let lat = sentence::field(from3, 0);
+    let from4 = sentence::after_field(from3, lat.len());
+    let lat_side = sentence::field(from4, 0);
+    let Angle::Good(latitude) = super::angle::latitude(lat, lat_side) else {
         return PositionReading::Refused(Refusal::OutOfForm);
     };
-    let Angle::Good(longitude) = super::angle::longitude(
-        sentence::field(body, 5),
-        sentence::field(body, 6),
-    ) else {
+    let from5 = sentence::after_field(from4, lat_side.len());
+    let lon = sentence::field(from5, 0);
+    let from6 = sentence::after_field(from5, lon.len());
+    let lon_side = sentence::field(from6, 0);
+    let Angle::Good(longitude) = super::angle::longitude(lon, lon_side) else {
         return PositionReading::Refused(Refusal::OutOfForm);
     };
     PositionReading::Read {
@@ -146,7 +151,7 @@ pub fn read_position(s: &[u8]) -> PositionReading
     if let Judged::Refused(r) = judged {
         return PositionReading::Refused(r);
     }
-    position_of(content::body(3, s))
+    position_of(content::between(3, s))
 }
 
 // One letter, A or V.
@@ -172,5 +177,5 @@ pub fn read_status(s: &[u8]) -> StatusReading
     if let Judged::Refused(r) = judged {
         return StatusReading::Refused(r);
     }
-    status_of(sentence::field(content::body(3, s), 2))
+    status_of(sentence::field(content::between(3, s), 2))
 }

@@ -192,10 +192,11 @@ pub fn read_setting(s: &[u8]) -> SettingReading
     if let Judged::Refused(r) = judged {
         return SettingReading::Refused(r);
     }
-    let body = content::body(3, s);
-    setting_of(
-        sentence::field(body, 1),
-        sentence::field(body, 2),
-        sentence::field(body, 3),
-    )
+    let body = content::between(3, s);
+    let from = sentence::from_field(body, 1);
+    let source = sentence::field(from, 0);
+    let from2 = sentence::after_field(from, source.len());
+    let name = sentence::field(from2, 0);
+    let from3 = sentence::after_field(from2, name.len());
+    setting_of(source, name, sentence::field(from3, 0))
 }

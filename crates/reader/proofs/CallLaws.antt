@@ -6,23 +6,17 @@ use mathlib.Core.List.{List, _++_, append-nil}
 use native.Mathlib.Omega.{arith}
 use lib.Dec.{ltb, eqb}
 use lib.ListN.{length, length-append, length-take}
-use lib.Seq.{length-take-le}
 use borrow.Author.Tests.{ne-eqb, eqb-true, ltb-false}
-use Rattle.room.specs.Room.{lay}
 use Rattle.room.proofs.RoomLaws.{length-lay}
 use Rattle.framing.specs.Format.{known, formatOf, pendingBound}
-use Rattle.framing.specs.Reading.{Mode, ongoing, closing, Reading, read, joined}
+use Rattle.framing.specs.Reading.{ongoing, closing, read, joined}
 use Rattle.framing.proofs.TestLaws.{past}
-use Rattle.framing.proofs.ReadingLaws.{pending-bound, length-joined, balance}
+use Rattle.framing.proofs.ReadingLaws.{length-joined, balance}
 use Rattle.reader.specs.declared.Reader.{Reader as State}
-use Rattle.reader.specs.declared.Outcome.{Outcome}
-use Rattle.reader.specs.declared.walk.Walked.{Walked}
 use Rattle.reader.specs.State.{sum, pendingBytes}
 use Rattle.reader.specs.Refusal.{broken, refusal}
-use Rattle.reader.specs.Calls.{Call, aPiece, aClose, bytesOf, roomOf, closes, returned, modeOf, gain, taken, refusedOf, refused, serve, RoomKept}
-use Rattle.reader.specs.Private.{countsOf, renewedOf, Fits}
+use Rattle.reader.specs.Calls.{Call, aPiece, aClose, bytesOf, roomOf, closes, modeOf, gain, taken, refused, serve, RoomKept}
 use Rattle.reader.proofs.JudgeLaws.{bound-most}
-use Rattle.reader.proofs.StepLaws.{frames-most}
 
 -- ---- what an accepted call's judgement says
 
@@ -55,10 +49,10 @@ accepts r n room e =
 
 -- ---- what a call gives
 
-pub serve-refused : (r : State) (c : Call) (a : ℕ) (o : Outcome) → o ≡ refusedOf a r → a ≡ refusal r (length (bytesOf c)) (length (roomOf c))
-    → (a ≡ 0 → ⊥) → returned o (roomOf c) ≡ serve r c
+pub serve-refused : (r : State) (c : Call) → (refusal r (length (bytesOf c)) (length (roomOf c)) ≡ 0 → ⊥)
+    → refused (refusal r (length (bytesOf c)) (length (roomOf c))) r (roomOf c) ≡ serve r c
 unfolding serve
-serve-refused r c a o q e h = rw (q, ← e, ne-eqb a 0 h)
+serve-refused r c h = rw (ne-eqb (refusal r (length (bytesOf c)) (length (roomOf c))) 0 h)
 
 serve-taken : (r : State) (c : Call) → refusal r (length (bytesOf c)) (length (roomOf c)) ≡ 0 → taken r (closes c) (gain r c) (roomOf c) ≡ serve r c
 unfolding serve
@@ -72,27 +66,6 @@ serve-piece r bs room line e l = rw (sym l) (serve-taken r (aPiece bs room) e)
 pub serve-close : (r : State) (room : List ℕ) → refusal r 0 (length room) ≡ 0
     → taken r true (read closing (formatOf (r .format)) (pendingBytes r)) room ≡ serve r (aClose room)
 serve-close r room e = rw (append-nil (pendingBytes r)) at (serve-taken r (aClose room) e)
-
--- the pending bytes are as many as the reader says
-pub pending-length : (r : State) → length (r .held) ≡ 275 → r .pending ≤ 275 → length (pendingBytes r) ≡ r .pending
-pending-length r l h = length-take-le (r .pending) (r .held) (omega arith)
-
--- ---- what going through a line leaves
-
--- The numbers of a reading fit into the reader, and are what the call answers.
-pub fits : (c : Mode) (r : State) (xs : List ℕ) (w : Walked) (rest : List ℕ) → w ≡ countsOf (read c (formatOf (r .format)) xs)
-    → rest ≡ read c (formatOf (r .format)) xs .rest → r .framed + r .skipped + length xs ≤ 4294967295 → Fits r w rest
-fits c r xs w rest e q h =
-    rw (e, q)
-    (record {
-      few = frames-most c (formatOf (r .format)) xs;
-      held = omega (arith, pending-bound c (formatOf (r .format)) xs, bound-most (formatOf (r .format)));
-      counted = omega (arith, balance c (formatOf (r .format)) xs);
-    })
-
-pub renews : (r : State) (closed : Bool) (g : Reading) (w : Walked) (rest room room′ : List ℕ) → w ≡ countsOf g → rest ≡ g .rest
-    → room′ ≡ lay (joined (g .events)) room → returned (renewedOf r closed w rest) room′ ≡ taken r closed g room
-renews r closed g w rest room room′ e q l = rw (e, q, l)
 
 -- ---- the room
 

@@ -1,11 +1,12 @@
 -- Parts of a slice as the code takes them, and bytes copied to be held or joined. Assumes nothing.
-use Prim.Native.Nat.{ℕ, zero, suc, _+_, _-_, _≤_}
+use Prim.Native.Nat.{ℕ, _+_, _-_, _≤_, _<_}
 use mathlib.Core.Path.{_≡_, sym, ap, _∙_}
 use mathlib.Core.List.{List, [], _++_, append-nil}
-use native.Mathlib.Nat.{sub-zero, zero-sub, suc-sub-suc, add-sub-cancel-left}
+use native.Mathlib.Decide.{decLe}
+use native.Mathlib.Nat.{add-sub-cancel-left}
 use native.Mathlib.Omega.{arith}
-use lib.ListN.{length, take, drop, replicate, length-append, length-drop, length-replicate, drop-of-length-le}
-use lib.Seq.{take-all, take-at, drop-at}
+use lib.ListN.{length, take, drop, replicate, getD, take-append-drop, length-append, length-drop, length-take, drop-of-length-le}
+use lib.Seq.{take-all, take-nil, take-add, take-at, drop-at, length-take-le, getD-drop, getD-append-add, paste, length-paste-head}
 use Rattle.room.specs.Room.{lay, copied}
 use Rattle.room.proofs.RoomLaws.{start-copied, lay-copied, lay-behind}
 use Rattle.reader.specs.State.{padded}
@@ -25,22 +26,59 @@ mid-part s a n = ap (λ (k : ℕ). take k (drop a s)) (add-sub-cancel-left a n)
 
 -- ---- bytes that are held
 
-drop-replicate : (m n a : ℕ) → drop m (replicate n a) ≡ replicate (n - m) a
-drop-replicate zero n a = ap (λ (k : ℕ). replicate k a) (sym (sub-zero n))
-drop-replicate (suc m) zero a = ap (λ (k : ℕ). replicate k a) (sym (zero-sub (suc m)))
-drop-replicate (suc m) (suc n) a = drop-replicate m n a ∙ ap (λ (k : ℕ). replicate k a) (sym (suc-sub-suc n m))
-
--- a copy to the start of zeros
-pub keeps : (rest : List ℕ) → length rest ≤ 275 → copied rest (replicate 275 0) 0 ≡ padded rest
-keeps rest h =
-    start-copied rest (replicate 275 0) (omega (arith, length-replicate {A = ℕ} 275 0))
-    ∙ ap (λ (z : List ℕ). rest ++ z) (drop-replicate (length rest) 275 0)
-
 -- two copies, one behind the other
 pub joins : (work a b : List ℕ) (k : ℕ) → length a ≡ k → k + length b ≤ length work → take (k + length b) (copied b (copied a work 0) k) ≡ a ++ b
 joins work a b k e h =
     rw (start-copied a work (omega arith), lay-copied a b work k e h)
     (take-at (a ++ b) (drop (length (a ++ b)) work) (k + length b) (rw (length-append a b, e)))
+
+-- a copy behind the first ones
+pub appended : (held b : List ℕ) (p : ℕ) → p + length b ≤ length held → take (p + length b) (copied b held p) ≡ take p held ++ b
+appended held b p h =
+    let l : length (take p held) ≡ p = length-take-le p held (omega arith) in
+    let e : copied (take p held) held 0 ≡ held = start-copied (take p held) held (omega arith) ∙ rw (l) (take-append-drop p held) in
+    ap (λ (x : List ℕ). take (p + length b) (copied b x p)) (sym e) ∙ joins held (take p held) b p l h
+
+-- ---- bytes that are moved to the start
+
+-- what is read is not written yet
+pub read-ahead : (h : List ℕ) (from j : ℕ) → from + j < length h → getD (paste h 0 (drop from h) j) (from + j) 0 ≡ getD (drop from h) j 0
+read-ahead h from j l =
+    let xs = take 0 h ++ take j (drop from h) in
+    let e : from + j ≡ length xs + from = omega (arith, length-paste-head h 0 (drop from h) j (omega arith) (omega (arith, length-drop from h))) in
+    ap (λ (k : ℕ). getD (paste h 0 (drop from h) j) k 0) e
+    ∙ getD-append-add xs (drop (0 + j) h) from 0
+    ∙ getD-drop (0 + j) h from 0
+    ∙ ap (λ (k : ℕ). getD h k 0) (omega arith)
+    ∙ sym (getD-drop from h j 0)
+
+pub shifted : (h : List ℕ) (from n : ℕ) → from + n ≤ length h → take n (paste h 0 (drop from h) n) ≡ take n (drop from h)
+shifted h from n l =
+    take-at (take 0 h ++ take n (drop from h)) (drop (0 + n) h) n
+    (omega (arith, length-paste-head h 0 (drop from h) n (omega arith) (omega (arith, length-drop from h))))
+
+-- the bytes of a line from used on, with zeros behind them
+drop-take : (n m : ℕ) (h : List ℕ) → drop n (take (n + m) h) ≡ take m (drop n h)
+drop-take n m h = ap (drop n) (take-add n m h) ∙ go (decLe n (length h))
+  where
+    go : Dec (n ≤ length h) → drop n (take n h ++ take m (drop n h)) ≡ take m (drop n h)
+    go (yes l) = drop-at (take n h) (take m (drop n h)) n (length-take-le n h l)
+    go (no l) =
+        let e : drop n h ≡ [] = drop-of-length-le h {i = n} (omega arith) in
+        rw (e, take-nil m, append-nil (take n h)) (drop-of-length-le (take n h) {i = n} (omega (arith, length-take n h)))
+
+pub rest-part : (h : List ℕ) (used total : ℕ) → used ≤ total → drop used (take total h) ≡ take (total - used) (drop used h)
+rest-part h used total u =
+    let q : total ≡ used + (total - used) = omega arith in
+    ap (λ (i : ℕ). drop used (take i h)) q ∙ drop-take used (total - used) h
+
+pub forgets : (h h₁ : List ℕ) (used total : ℕ) → used ≤ total → total ≤ 275 → length h ≡ 275 → length h₁ ≡ length h
+    → take (total - used) h₁ ≡ take (total - used) (drop used h)
+    → take (total - used) h₁ ++ replicate (length h₁ - (total - used)) 0 ≡ padded (drop used (take total h))
+forgets h h₁ used total u t l k e =
+    let n = total - used in
+    let m : length (take n (drop used h)) ≡ n = length-take-le n (drop used h) (omega (arith, length-drop used h)) in
+    rw (rest-part h used total u, m, e, k, l)
 
 -- ---- a room of which the later part is lent again
 

@@ -101,24 +101,8 @@ module _ (start bytes line : List ℕ) (pending k : ℕ) (l : length start ≡ p
         roomy = r;
       }
 
--- What is left of a longer piece.
-pub record Left (f : Format) (start bytes : List ℕ) (pending : ℕ) (w : Walked) : Type 0 where
-  pub held : pending ≤ w .framed + w .skipped
-  pub short : w .framed + w .skipped ≤ pending + length bytes
-  pub rest : take (length bytes - (w .framed + w .skipped - pending)) (drop (w .framed + w .skipped - pending) bytes) ≡ read ongoing f (start ++ bytes) .rest
-
-pub left-behind : (f : Format) (start bytes : List ℕ) (pending : ℕ) (w : Walked) → length start ≡ pending → pendingBound f ≤ length bytes
-    → w ≡ countsOf (read ongoing f (start ++ bytes)) → Left f start bytes pending w
-left-behind f start bytes pending w l h e =
-    let g = read ongoing f (start ++ bytes) in
-    let b = balance ongoing f (start ++ bytes) in
-    let held : pending ≤ usedOf g = omega (arith, b, pending-bound ongoing f (start ++ bytes), length-append start bytes) in
-    rw (e)
-    (record {
-      held = held;
-      short = omega (arith, b, length-append start bytes);
-      rest =
-          tail-part bytes (usedOf g - pending)
-          ∙ sym (drop-behind start bytes pending (usedOf g) l held)
-          ∙ rest-stands ongoing f (start ++ bytes);
-    })
+-- the reading of a longer piece leaves the pending bytes behind
+pub passed-held : (f : Format) (start bytes : List ℕ) (pending : ℕ) (w : Walked) → length start ≡ pending → pendingBound f ≤ length bytes
+    → w ≡ countsOf (read ongoing f (start ++ bytes)) → pending ≤ w .framed + w .skipped
+passed-held f start bytes pending w l h e =
+    rw (e) (omega (arith, balance ongoing f (start ++ bytes), pending-bound ongoing f (start ++ bytes), length-append start bytes))

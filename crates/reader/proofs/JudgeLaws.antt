@@ -5,7 +5,8 @@ use mathlib.Core.Bool.{Bool, true, false, cond}
 use mathlib.Core.List.{List}
 use native.Mathlib.Omega.{arith}
 use lib.Dec.{ltb}
-use lib.ListN.{take}
+use lib.ListN.{length, take}
+use native.Mathlib.Decide.{decLe}
 use borrow.Author.Tests.{lt-ltb, le-ltb, ltb-true, ltb-false}
 use Rattle.framing.specs.declared.Reason.the-variants.{Checksum}
 use Rattle.framing.specs.declared.Scanned.{Scanned}
@@ -13,11 +14,14 @@ use Rattle.framing.specs.declared.Scanned.the-variants.{Whole, Partial, Broken}
 use Rattle.framing.specs.declared.Found.{Found}
 use Rattle.framing.specs.declared.Found.the-variants.{Frame, Start, Neither}
 use Rattle.framing.specs.declared.Layout.{Layout}
-use Rattle.framing.specs.Format.{Format, layoutOf, longest, pendingBound, good}
+use Rattle.framing.specs.Format.{Format, formatOf, layoutOf, longest, pendingBound, good}
 use Rattle.framing.specs.Shape.{scan}
 use Rattle.framing.specs.Frame.{frontOf, front}
 use Rattle.framing.proofs.FormatLaws.{lawful}
-use Rattle.reader.specs.Refusal.{isStart}
+use Rattle.reader.specs.declared.place.Numbers.{Numbers}
+use Rattle.reader.specs.Refusal.{isStart, broken, refusal}
+use Rattle.reader.specs.Place.{stateOf}
+use Rattle.reader.specs.Private.{TellsStart, refusalBy}
 
 -- a test of a sum that does not fit, by a difference that does
 pub by-difference : (l s n : ℕ) → s ≤ l → ltb (l - s) n ≡ ltb l (s + n)
@@ -59,3 +63,16 @@ front-start f xs = go (scan f xs)
     go (Whole n) = pick n (good f (take n xs))
     go Partial = refl
     go (Broken r) = refl
+
+-- ---- the judgement, by the test of what is pending
+
+judged-by : (n : Numbers) (held : List ℕ) (waits : Bool) (bytes room : ℕ) → length held ≡ 275 → TellsStart (formatOf (n .format)) held (n .pending) waits
+    → Dec (n .pending ≤ 275) → refusalBy n waits bytes room ≡ refusal (stateOf n held) bytes room
+unfolding refusal broken
+judged-by n held waits bytes room l w (yes h) = rw (w (omega arith))
+judged-by n held waits bytes room l w (no h) =
+    rw (lt-ltb (pendingBound (formatOf (n .format))) (n .pending) (omega (arith, bound-most (formatOf (n .format)))))
+
+pub judged : (n : Numbers) (held : List ℕ) (waits : Bool) (bytes room : ℕ) → length held ≡ 275 → TellsStart (formatOf (n .format)) held (n .pending) waits
+    → refusalBy n waits bytes room ≡ refusal (stateOf n held) bytes room
+judged n held waits bytes room l w = judged-by n held waits bytes room l w (decLe (n .pending) 275)

@@ -4,5 +4,6 @@ pub mod FinishLaws
 pub mod HeldLaws
 pub mod JoinLaws
 pub mod JudgeLaws
+pub mod PlaceLaws
 pub mod StepLaws
 pub mod WalkLaws

@@ -4,22 +4,25 @@ use mathlib.Core.Path.{_≡_, refl, sym, ap, _∙_, subst}
 use mathlib.Core.Bool.{Bool, true, false}
 use mathlib.Core.List.{List, [], _∷_, _++_, append-assoc, append-nil}
 use native.Mathlib.Omega.{arith}
-use lib.ListN.{length, take, drop, replicate, length-drop}
+use lib.ListN.{length, take, drop, replicate, length-drop, drop-of-length-le}
 use lib.Seq.{length-take-le, drop-drop, take-add}
 use Rattle.room.specs.Room.{lay, copied}
 use Rattle.room.proofs.RoomLaws.{length-lay, lay-copied}
 use Rattle.framing.specs.declared.Reason.the-variants.{StartByte}
+use Rattle.framing.specs.declared.Scanned.the-variants.{Partial}
 use Rattle.framing.specs.declared.Found.{Found}
 use Rattle.framing.specs.declared.Found.the-variants.{Frame, Start, Neither}
 use Rattle.framing.specs.Format.{Format}
+use Rattle.framing.specs.Shape.{scan}
 use Rattle.framing.specs.Frame.{front}
 use Rattle.framing.specs.Idle.{idle}
 use Rattle.framing.specs.Reading.{ongoing, Event, framed, skipped, read, extend, joined, total, oneFrame, framedBytes, skippedBytes}
-use Rattle.framing.proofs.ReadingLaws.{total-append, joined-append, length-joined}
+use Rattle.framing.proofs.ReadingLaws.{read-nil, total-append, joined-append, length-joined}
 use Rattle.framing.proofs.IdleLaws.{idle-most, idle-reads, joined-skips, framed-skips, frames-skips, skipped-skips}
 use Rattle.framing.specs.declared.run.Run.{Run}
 use Rattle.framing.specs.Leading.{ledBy, leadOf}
 use Rattle.framing.proofs.LeadLaws.{oneOf, lead-one}
+use Rattle.reader.specs.declared.walk.Walked.{Walked}
 use Rattle.reader.specs.Private.{countsOf}
 use Rattle.reader.proofs.JudgeLaws.{startOf}
 use Rattle.reader.proofs.StepLaws.{Step, frame-inside, frame-step, skip-step, start-stops}
@@ -204,3 +207,38 @@ module _ (f : Format) (line room₀ room : List ℕ) (at handed frames : ℕ) (w
       w .begins .reads ∙ rw (start-stops f (drop at line) (stop-start (front f (drop at line)) s), append-nil (w .events)) in
       let k : at - handed ≡ total skippedBytes (w .events) = omega (arith, w .begins .width, w .bytes) in
       rw (g) (rw (k, w .bytes, w .number), w .laid)
+
+-- ---- lines that need no walk
+
+-- what going through a line answers and leaves
+abbrev pub Walks : Format → List ℕ → List ℕ → Walked → List ℕ → Type 0
+Walks f line room w room′ = (w ≡ countsOf (read ongoing f line)) × (room′ ≡ lay (joined (read ongoing f line .events)) room)
+
+-- a proper start
+pub start-walks : (f : Format) (line room : List ℕ) → scan f line ≡ Partial → Walks f line room (record { framed = 0; skipped = 0; frames = 0 }) room
+unfolding front
+start-walks f line room e = rw (start-stops f line (rw e)) (refl, refl)
+
+-- bytes that begin no shape
+pub idle-walks : (f : Format) (line room : List ℕ) (n : ℕ) → n ≡ idle f line → n ≡ length line
+    → Walks f line room (record { framed = 0; skipped = n; frames = 0 }) room
+idle-walks f line room n e l =
+    let k = idle f line in
+    let none : drop k line ≡ [] = drop-of-length-le line {i = k} (omega arith) in
+    let g : read ongoing f line ≡ record { events = replicate k (skipped StartByte); rest = [] } =
+    idle-reads f line ∙ rw (none, read-nil ongoing f, append-nil (replicate k (skipped StartByte))) in
+    rw (g, e) (rw (framed-skips k StartByte, skipped-skips k StartByte, frames-skips k StartByte), rw (joined-skips k StartByte))
+
+-- and what stands behind them
+pub idle-on : (f : Format) (line room : List ℕ) (n : ℕ) (w : Walked) (room′ : List ℕ) → n ≡ idle f line → Walks f (drop n line) room w room′
+    → Walks f line room (record { framed = w .framed; skipped = w .skipped + n; frames = w .frames }) room′
+idle-on f line room n w room′ e r =
+    let k = idle f line in
+    let es : List Event = replicate k (skipped StartByte) in
+    let ds : List Event = read ongoing f (drop k line) .events in
+    let a : total framedBytes (es ++ ds) ≡ total framedBytes ds = omega (arith, total-append framedBytes es ds, framed-skips k StartByte) in
+    let b : total skippedBytes (es ++ ds) ≡ total skippedBytes ds + k = omega (arith, total-append skippedBytes es ds, skipped-skips k StartByte) in
+    let d : total oneFrame (es ++ ds) ≡ total oneFrame ds = omega (arith, total-append oneFrame es ds, frames-skips k StartByte) in
+    let j : joined (es ++ ds) ≡ joined ds = joined-append es ds ∙ rw (joined-skips k StartByte) in
+    let q : Walks f (drop k line) room w room′ = subst (λ (i : ℕ). Walks f (drop i line) room w room′) e r in
+    rw (e, idle-reads f line) (rw (a, b, d, q .0), rw (j) (q .1))

@@ -1,14 +1,14 @@
 // The refusals of a piece or a close.
 use super::Reader;
+use super::place::Numbers;
+use framing::Growth;
 use framing::run;
 ghost use mathlib.Core.Path.{_≡_};
-ghost use Prim.Native.Nat.{_+_, _≤_};
+ghost use Prim.Native.Nat.{_+_};
 ghost use lib.Dec.{ltb};
+ghost use lib.ListN.{take};
 ghost use Rattle.framing.specs.Format.{formatOf, pendingBound};
-ghost use Rattle.framing.specs.Shape.{scan};
-ghost use Rattle.reader.specs.State.{sum, pendingBytes};
-ghost use Rattle.reader.specs.Refusal.{isStart, broken, refusal};
-ghost use Rattle.reader.specs.Private.{firstOf};
+ghost use Rattle.reader.specs.Private.{firstOf, TellsStart, StartWith, brokenBy, refusalBy};
 
 // How many bytes can be pending.
 pub(crate) fn pending_bound(format: u32) -> u32
@@ -21,68 +21,87 @@ pub(crate) fn pending_bound(format: u32) -> u32
     l.longest - 1
 }
 
-// Whether s is nothing or a proper start of a shape.
-fn is_start(format: u32, s: &[u8]) -> bool
-    ensures { λ b. ⌜ b ≡ isStart (scan (formatOf format) (now (s .entry))) ⌝ }
+// Whether what is pending is nothing or a proper start of a shape.
+pub(crate) fn waits(format: u32, held: &[u8], pending: usize) -> bool
+    ensures { λ b. ⌜ TellsStart (formatOf format) (now (held .entry)) pending b ⌝ }
 {
-    let found = run::leading(format, s, 1);
+    let found = run::leading_within(format, held, pending, 1);
     found.waits
 }
 
-// Whether what is pending is nothing or a proper start of a shape. The held bytes are copied only where some are.
-fn holds_start(r: Reader) -> bool
-    requires { ⌜ r .pending ≤ 275 ⌝ }
-    ensures { λ b. ⌜ b ≡ isStart (scan (formatOf (r .format)) (pendingBytes r)) ⌝ }
-{
-    let pending = r.pending as usize;
-    if pending == 0 {
-        return true;
-    }
-    let held = r.held;
-    is_start(r.format, &held[..pending])
+// What is known of the pending bytes: whether they are nothing or a proper start, and whether they surely are one together with a piece.
+pub(crate) struct Start {
+    pub(crate) waits: bool,
+    pub(crate) grows: bool,
 }
 
-// Whether the three numbers and n more are over the most that a reader counts.
-fn is_over(r: Reader, n: usize) -> bool
-    ensures { λ b. ⌜ b ≡ ltb 4294967295 (sum r + n) ⌝ }
+// The same test, with a shortcut: the pending bytes are scanned only where `growth_of` cannot tell.
+pub(crate) fn start_of(format: u32, held: &[u8], pending: usize, bytes: &[u8]) -> Start
+    ensures { λ s. ⌜ TellsStart (formatOf format) (now (held .entry)) pending (s .waits)
+        × StartWith (formatOf format) (take pending (now (held .entry))) (now (bytes .entry)) (s .grows) ⌝ }
 {
-    let sum = r.framed as u64 + r.skipped as u64 + r.pending as u64;
+    if pending == 0 {
+        return Start {
+            waits: true,
+            grows: false,
+        };
+    }
+    match framing::growth_of(format, held, pending, bytes) {
+        Growth::Grows => Start {
+            waits: true,
+            grows: true,
+        },
+        Growth::Waits => Start {
+            waits: true,
+            grows: false,
+        },
+        Growth::Unsaid => Start {
+            waits: waits(format, held, pending),
+            grows: false,
+        },
+    }
+}
+
+// Whether the three numbers and more bytes are over the most that a reader counts.
+fn is_over(n: Numbers, more: usize) -> bool
+    ensures { λ b. ⌜ b ≡ ltb 4294967295 (n .framed + n .skipped + n .pending + more) ⌝ }
+{
+    let sum = n.framed as u64 + n.skipped as u64 + n.pending as u64;
     if Reader::MOST_BYTES < sum {
         return true;
     }
-    Reader::MOST_BYTES - sum < n as u64
+    Reader::MOST_BYTES - sum < more as u64
 }
 
-// Whether room is smaller than the pending bytes and n more.
-fn is_small(room: usize, pending: usize, n: usize) -> bool
-    ensures { λ b. ⌜ b ≡ ltb room (pending + n) ⌝ }
+// Whether room is smaller than the pending bytes and so many more.
+fn is_small(room: usize, pending: usize, more: usize) -> bool
+    ensures { λ b. ⌜ b ≡ ltb room (pending + more) ⌝ }
 {
     if room < pending {
         return true;
     }
-    room - pending < n
+    room - pending < more
 }
 
-// Whether r is no state of a reader (refusal 11).
-fn is_broken(r: Reader) -> bool
-    ensures { λ b. ⌜ b ≡ broken r ⌝ }
+// Whether these are no state of a reader (refusal 11).
+fn is_broken(n: Numbers, waits: bool) -> bool
+    ensures { λ b. ⌜ b ≡ brokenBy n waits ⌝ }
 {
-    let format = r.format;
-    if !framing::is_known(format) {
+    if !framing::is_known(n.format) {
         return true;
     }
-    if pending_bound(format) < r.pending {
+    if pending_bound(n.format) < n.pending {
         return true;
     }
-    if !holds_start(r) {
+    if !waits {
         return true;
     }
-    let over = is_over(r, 0);
-    let closed = r.closed;
+    let over = is_over(n, 0);
+    let closed = n.closed;
     if !closed {
         return over;
     }
-    if 0 < r.pending {
+    if 0 < n.pending {
         return true;
     }
     over
@@ -110,14 +129,15 @@ fn first_refusal(unsound: bool, closed: bool, long: bool, over: bool, small: boo
     0
 }
 
-// The number of the refusal of a call that brings n bytes and lends so much room, or 0.
-pub(crate) fn refusal(r: Reader, n: usize, room: usize) -> u32
-    ensures { λ a. ⌜ a ≡ refusal r n room ⌝ }
+// The number of the refusal of a call with so many bytes and so much room, or 0. `waits` is the test of the pending bytes; it is not made
+// here, because a slice among the parameters costs up to 7 ns a call.
+pub(crate) fn refusal(n: Numbers, waits: bool, bytes: usize, room: usize) -> u32
+    ensures { λ a. ⌜ a ≡ refusalBy n waits bytes room ⌝ }
 {
-    let unsound = is_broken(r);
-    let closed = r.closed;
-    let long = Reader::LONGEST_PIECE < n;
-    let over = is_over(r, n);
-    let small = is_small(room, r.pending as usize, n);
+    let unsound = is_broken(n, waits);
+    let closed = n.closed;
+    let long = Reader::LONGEST_PIECE < bytes;
+    let over = is_over(n, bytes);
+    let small = is_small(room, n.pending as usize, bytes);
     first_refusal(unsound, closed, long, over, small)
 }

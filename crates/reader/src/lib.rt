@@ -1,18 +1,15 @@
 // A reader of a line that comes in pieces.
+mod held;
 mod judge;
+pub mod place;
 mod walk;
 
-use walk::Walked;
+use place::Advance;
+use place::Numbers;
 ghost use mathlib.Core.Path.{_≡_};
-ghost use mathlib.Core.Bool.{false};
-ghost use mathlib.Core.List.{_++_};
-ghost use Prim.Native.Nat.{_+_, _≤_};
-ghost use lib.ListN.{length};
-ghost use Rattle.framing.specs.Format.{formatOf};
-ghost use Rattle.framing.specs.Reading.{ongoing, read};
-ghost use Rattle.reader.specs.State.{sum, pendingBytes, empty, freshOf};
-ghost use Rattle.reader.specs.Calls.{aPiece, aClose, returned, taken, refusedOf, serve};
-ghost use Rattle.reader.specs.Private.{renewedOf, Fits};
+ghost use Rattle.reader.specs.State.{empty, freshOf};
+ghost use Rattle.reader.specs.Calls.{aPiece, aClose, returned, serve};
+ghost use Rattle.reader.specs.Place.{stateOf, outcomeOf};
 
 // A reader goes into a call by value and comes back by value. Its three numbers are framed, skipped and pending; the first pending
 // bytes of held are those that wait for more.
@@ -82,29 +79,18 @@ impl Reader {
     pub fn piece(self, bytes: &[u8], room: &mut [u8]) -> Outcome
         ensures { λ o. ⌜ returned o (now (room .exit)) ≡ serve self (aPiece (now (bytes .entry)) (now (room .entry))) ⌝ }
     {
-        let answer = judge::refusal(self, bytes.len(), room.len());
-        if answer != 0 {
-            return refused(answer, self);
-        }
-        if self.pending == 0 {
-            return accept(self, bytes, room);
-        }
-        accept_held(self, bytes, room)
+        let mut held = self.held;
+        let a = place::piece(numbers_of(self), &mut held, bytes, room);
+        joined_outcome(a, held)
     }
 
     // Ends the line: what the closing reading adds is laid in room in the same way. A refusal changes nothing.
     pub fn close(self, room: &mut [u8]) -> Outcome
         ensures { λ o. ⌜ returned o (now (room .exit)) ≡ serve self (aClose (now (room .entry))) ⌝ }
     {
-        let answer = judge::refusal(self, 0, room.len());
-        if answer == 0 {
-            let format = self.format;
-            let pending = self.pending as usize;
-            let held = self.held;
-            let w = walk::finish(format, &held[..pending], room);
-            return renewed(self, true, w, &held[..0]);
-        }
-        refused(answer, self)
+        let mut held = self.held;
+        let a = place::close(numbers_of(self), &mut held, room);
+        joined_outcome(a, held)
     }
 }
 
@@ -122,65 +108,34 @@ fn empty(format: u32, closed: bool) -> Reader
     }
 }
 
-// What a refused call answers: the reader is as it was.
-fn refused(answer: u32, r: Reader) -> Outcome
-    ensures { λ o. ⌜ o ≡ refusedOf answer r ⌝ }
+// A reader's numbers.
+pub fn numbers_of(r: Reader) -> Numbers
+    ensures { λ n. ⌜ stateOf n (r .held) ≡ r ⌝ }
 {
-    Outcome {
-        answer: answer,
-        frames: 0,
-        reader: r,
-    }
-}
-
-// What an accepted call answers: the numbers have grown by those of w, and rest is pending.
-fn renewed(r: Reader, closed: bool, w: Walked, rest: &[u8]) -> Outcome
-    requires { ⌜ Fits r w (now rest) ⌝ }
-    ensures { λ o. ⌜ o ≡ renewedOf r closed w (now (rest .entry)) ⌝ }
-{
-    let held = walk::keep(rest);
-    let reader = Reader {
+    Numbers {
         format: r.format,
-        closed: closed,
-        framed: r.framed + w.framed as u32,
-        skipped: r.skipped + w.skipped as u32,
-        pending: rest.len() as u32,
-        held: held,
-    };
+        closed: r.closed,
+        framed: r.framed,
+        skipped: r.skipped,
+        pending: r.pending,
+    }
+}
+
+// What a call answers, with the bytes that it left held.
+fn joined_outcome(a: Advance, held: [u8; Reader::HELD]) -> Outcome
+    ensures { λ o. ⌜ o ≡ outcomeOf a held ⌝ }
+{
+    let n = a.numbers;
     Outcome {
-        answer: 0,
-        frames: w.frames as u32,
-        reader: reader,
+        answer: a.answer,
+        frames: a.frames,
+        reader: Reader {
+            format: n.format,
+            closed: n.closed,
+            framed: n.framed,
+            skipped: n.skipped,
+            pending: n.pending,
+            held: held,
+        },
     }
-}
-
-// An accepted piece: line is the pending bytes and then the piece's.
-fn accept(r: Reader, line: &[u8], room: &mut [u8]) -> Outcome
-    requires { ⌜ (length (now line) ≤ length (now room)) × (r .framed + r .skipped + length (now line) ≤ 4294967295) ⌝ }
-    ensures { λ o. ⌜ returned o (now (room .exit)) ≡ taken r false (read ongoing (formatOf (r .format)) (now (line .entry))) (now (room .entry)) ⌝ }
-{
-    let format = r.format;
-    let w = walk::walk(format, line, room);
-    let used = w.framed + w.skipped;
-    renewed(r, false, w, &line[used..])
-}
-
-// An accepted piece behind pending bytes: as much of it as they can need is joined to them, and the rest is read where it stands.
-fn accept_held(r: Reader, bytes: &[u8], room: &mut [u8]) -> Outcome
-    requires { ⌜ (r .pending ≤ 275) × (r .pending + length (now bytes) ≤ length (now room)) × (sum r + length (now bytes) ≤ 4294967295) ⌝ }
-    ensures { λ o. ⌜ returned o (now (room .exit)) ≡ taken r false (read ongoing (formatOf (r .format)) (pendingBytes r ++ now (bytes .entry))) (now (room .entry)) ⌝ }
-{
-    let format = r.format;
-    let pending = r.pending as usize;
-    let held = r.held;
-    let most = judge::pending_bound(format) as usize;
-    let mut work = [0u8; 2 * Reader::HELD];
-    if bytes.len() <= most {
-        let n = walk::join(held, pending, bytes, &mut work);
-        return accept(r, &work[..n], room);
-    }
-    let n = walk::join(held, pending, &bytes[..most], &mut work);
-    let w = walk::resume(format, &work[..n], pending, bytes, room);
-    let end = w.framed + w.skipped - pending;
-    renewed(r, false, w, &bytes[end..])
 }

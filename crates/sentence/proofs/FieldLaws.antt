@@ -1,7 +1,7 @@
 -- A walk through a body, field by field: where field i stands, and how many fields there are.
 -- Assumes nothing.
 use mathlib.Core.Path.{_≡_, refl, sym, ap, subst, subst₂, _∙_}
-use mathlib.Core.Bool.{Bool, true, false}
+use mathlib.Core.Bool.{Bool, true, false, cond}
 use mathlib.Core.List.{List, [], _∷_, _++_, append-assoc, append-nil}
 use mathlib.Core.Option.{Option, none, some}
 use Prim.Native.Nat.{ℕ, zero, suc, _+_, _-_, _<_, _≤_}
@@ -9,9 +9,10 @@ use native.Mathlib.Nat.{sub-self}
 use native.Mathlib.Numerals.{add-one}
 use native.Mathlib.Omega.{arith}
 use lib.Dec.{eqb}
-use lib.ListN.{length, getD, take, drop, getElem?, length-drop, drop-of-length-le}
-use lib.Seq.{drop-cons, take-suc, getD-drop}
+use lib.ListN.{length, getD, take, drop, getElem?, length-take, length-drop, drop-of-length-le, take-append-drop}
+use lib.Seq.{drop-cons, drop-drop, take-suc, getD-drop, length-take-le}
 use borrow.Author.Tests.{eq-eqb, ne-eqb}
+use Rattle.framing.specs.Nmea.{commaCount}
 use Rattle.sentence.specs.Fields.{before, fields, fieldAt}
 use Rattle.sentence.specs.Private.{fieldOf, spanBytes, Within}
 use Rattle.sentence.specs.declared.Span.{Span}
@@ -71,10 +72,10 @@ module _ (s : List ℕ) (k : ℕ) (h : k < length s) where
   unfolding fields
   opened t e = rw (add-one, drop-cons s k 0 h) (ap (λ (u : Bool). before u (getD s k 0) (fields (drop (suc k) s))) e)
 
-  at-plain : (getD s k 0 ≡ 0x2C → ⊥) → fields (drop k s) ≡ before false (getD s k 0) (fields (drop (k + 1) s))
+  pub at-plain : (getD s k 0 ≡ 0x2C → ⊥) → fields (drop k s) ≡ before false (getD s k 0) (fields (drop (k + 1) s))
   at-plain e = opened false (ne-eqb (getD s k 0) 0x2C e)
 
-  at-comma : getD s k 0 ≡ 0x2C → fields (drop k s) ≡ before true (getD s k 0) (fields (drop (k + 1) s))
+  pub at-comma : getD s k 0 ≡ 0x2C → fields (drop k s) ≡ before true (getD s k 0) (fields (drop (k + 1) s))
   at-comma e = opened true (eq-eqb (getD s k 0) 0x2C e)
 
   one-more : (a : ℕ) → a ≤ k → take (k - a) (drop a s) ++ (getD s k 0 ∷ []) ≡ take (k + 1 - a) (drop a s)
@@ -201,3 +202,54 @@ module _ (s : List ℕ) (n k : ℕ) (c : Count s n k) where
       let r = c .rest in
       let e : length (fields (drop k s)) ≡ 1 = ap (λ (l : List ℕ). length (fields l)) (drop-of-length-le s h) in
       omega arith
+
+-- ---- part by part
+
+-- the comma between two bodies is missing where they stand together
+count-joined : (x y : List ℕ) → length (fields (x ++ y)) + 1 ≡ length (fields x) + length (fields y)
+unfolding fields before
+count-joined [] y = omega arith
+count-joined (b ∷ x) y = go (eqb b 0x2C) (count-joined x y)
+  where
+    go : (t : Bool) → length (fields (x ++ y)) + 1 ≡ length (fields x) + length (fields y)
+        → length (before t b (fields (x ++ y))) + 1 ≡ length (before t b (fields x)) + length (fields y)
+    go true ih = omega arith
+    go false ih = omega (arith, count-before b (fields (x ++ y)), count-before b (fields x))
+
+count-few : (x : List ℕ) → length (fields x) ≤ length x + 1
+unfolding fields before
+count-few [] = omega arith
+count-few (b ∷ x) = go (eqb b 0x2C) (count-few x)
+  where
+    go : (t : Bool) → length (fields x) ≤ length x + 1 → length (before t b (fields x)) ≤ suc (length x) + 1
+    go true ih = omega arith
+    go false ih = omega (arith, count-before b (fields x))
+
+-- one field more than commas
+pub comma-fields : (s : List ℕ) → suc (commaCount s) ≡ length (fields s)
+unfolding commaCount fields before
+comma-fields [] = refl
+comma-fields (b ∷ s) = go (eqb b 0x2C) (comma-fields s)
+  where
+    go : (t : Bool) → suc (commaCount s) ≡ length (fields s) → suc (cond t 1 0 + commaCount s) ≡ length (before t b (fields s))
+    go true ih = omega arith
+    go false ih = omega (arith, count-before b (fields s))
+
+pub part-few : (s : List ℕ) (k e : ℕ) → e ≤ k + 255 → length (take (e - k) (drop k s)) ≤ 255
+part-few s k e h = simp length-take (omega arith)
+
+-- m commas in the bytes from k up to e; n₁ is what the code holds after them
+pub count-part : (s : List ℕ) (n k e m : ℕ) → Count s n k → k ≤ e → e ≤ length s → m + 1 ≡ length (fields (take (e - k) (drop k s)))
+    → (n₁ : ℕ) → n₁ ≡ n + m → Count s n₁ e
+count-part s n k e m c h g p n₁ q =
+    let x = take (e - k) (drop k s) in
+    let r = c .rest in
+    let f = c .few in
+    let at : k + (e - k) ≡ e = omega arith in
+    let d : drop (e - k) (drop k s) ≡ drop e s = drop-drop (e - k) k s ∙ ap (λ (i : ℕ). drop i s) at in
+    let j : x ++ drop e s ≡ drop k s = ap (λ (l : List ℕ). x ++ l) (sym d) ∙ take-append-drop (e - k) (drop k s) in
+    let o : length (fields (drop k s)) ≡ length (fields (x ++ drop e s)) = ap (λ (l : List ℕ). length (fields l)) (sym j) in
+    let a = count-joined x (drop e s) in
+    let l : length x ≡ e - k = length-take-le (e - k) (drop k s) (simp length-drop (omega arith)) in
+    let w = count-few x in
+    record { within = g; few = omega arith; rest = omega arith }

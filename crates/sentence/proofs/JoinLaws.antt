@@ -47,7 +47,7 @@ joined [] = []
 joined (f ∷ []) = f
 joined (f ∷ g ∷ fs) = f ++ 0x2C ∷ joined (g ∷ fs)
 
-fields-some : (s : List ℕ) → 0 < length (fields s)
+pub fields-some : (s : List ℕ) → 0 < length (fields s)
 unfolding fields before
 fields-some [] = omega arith
 fields-some (b ∷ s) = go (eqb b 0x2C) (fields s) (fields-some s)

@@ -15,8 +15,9 @@ use Rattle.content.specs.declared.Refusal.the-variants.{NotOneFrame, OtherMessa
 use Rattle.content.specs.declared.Judged.{Judged}
 use Rattle.content.specs.declared.Judged.the-variants.{Done, Refused}
 use Rattle.content.specs.Answer.{Answer, given, refused, unless, refusalNumber}
-use Rattle.content.specs.Body.{isFrame, bodyOf}
+use Rattle.content.specs.Body.{isFrame, bodyOf, betweenOf}
 use Rattle.content.specs.Shared.{judgedNumber}
+use Rattle.content.proofs.BodyLaws.{body-between}
 use Rattle.sentence.specs.Fields.{fields}
 use Rattle.sentence.specs.Judge.{eqBytes, hasTag, inSentence, refusalOf}
 
@@ -93,3 +94,14 @@ module _ {A : Type 0} (zeros : A) (tag : List ℕ) (count : ℕ) (s : List ℕ) 
   judged-done h =
       passing zeros answer (isFrame nmea s) (hasTag tag (bodyOf nmea s)) (eqb (length (fields (bodyOf nmea s))) count)
       (judgedNumber j) (ap judgedNumber h) e
+
+one-frame : (t u v : Bool) → 0 ≡ numberInOrder t u v → t ≡ true
+one-frame true u v e = refl
+one-frame false u v e = absurd (omega arith)
+
+-- where `judge` refused nothing, the sentence is one frame: its body is what is between its head and its tail
+pub judged-body : (tag : List ℕ) (count : ℕ) (s : List ℕ) (j : Judged) → judgedNumber j ≡ refusalOf tag count s → j ≡ Done → betweenOf nmea s ≡ bodyOf nmea s
+unfolding refusalOf
+judged-body tag count s j e h =
+    body-between nmea s
+    (one-frame (isFrame nmea s) (hasTag tag (bodyOf nmea s)) (eqb (length (fields (bodyOf nmea s))) count) (ap judgedNumber (sym h) ∙ e))

@@ -3,3 +3,6 @@ pub mod FieldLaws
 pub mod DigitLaws
 pub mod JudgeLaws
 pub mod JoinLaws
+pub mod FromLaws
+pub mod TagLaws
+pub mod CountLaws

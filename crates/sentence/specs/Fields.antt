@@ -1,6 +1,6 @@
 -- The fields of a body: what stands between its commas (docs/FORMATS.md, "NMEA content").
-use Prim.Native.Nat.{ℕ}
-use mathlib.Core.Bool.{Bool, true, false}
+use Prim.Native.Nat.{ℕ, zero, suc}
+use mathlib.Core.Bool.{Bool, true, false, cond}
 use mathlib.Core.List.{List, [], _∷_}
 use lib.Dec.{eqb}
 use lib.ListN.{getD}
@@ -19,3 +19,9 @@ fields (b ∷ s) = before (eqb b 0x2C) b (fields s)
 -- field i, from 0, and the empty one where there is none
 unfoldable pub fieldAt : List ℕ → ℕ → List ℕ
 fieldAt s i = getD (fields s) i []
+
+-- the bytes from field n on, after n commas; none where there are fewer
+unfoldable pub fromField : List ℕ → ℕ → List ℕ
+fromField [] n = []
+fromField (b ∷ s) zero = b ∷ s
+fromField (b ∷ s) (suc n) = fromField s (cond (eqb b 0x2C) n (suc n))

@@ -1,8 +1,11 @@
--- What the private search for a field promises. Nothing public rests on these definitions.
+-- What private functions promise. Nothing public rests on these definitions.
 use Prim.Native.Nat.{ℕ, _-_, _≤_}
+use mathlib.Core.Bool.{cond}
 use mathlib.Core.List.{List}
 use mathlib.Core.Option.{Option, none, some}
 use lib.ListN.{length, take, drop, getElem?}
+use Rattle.framing.specs.Format.{nmea}
+use Rattle.content.specs.Body.{isFrame, bodyOf}
 use Rattle.sentence.specs.declared.Span.{Span}
 use Rattle.sentence.specs.declared.Span.the-variants.{At, Missing}
 use Rattle.sentence.specs.Fields.{fields}
@@ -19,3 +22,7 @@ spanBytes s Missing = none
 abbrev pub Within : List ℕ → Span → Type 0
 Within s (At a e) = (a ≤ e) × (e ≤ length s)
 Within s Missing = Unit {0}
+
+-- how many fields a sentence has: 0 where s is none
+unfoldable pub fieldsIn : List ℕ → ℕ
+fieldsIn s = cond (isFrame nmea s) (length (fields (bodyOf nmea s))) 0

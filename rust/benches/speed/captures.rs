@@ -4,10 +4,10 @@ use crate::sums;
 use blossomaxle::Format;
 
 /// Numbers that look like chance, by Marsaglia's xorshift.
-struct Xorshift(u64);
+pub struct Xorshift(u64);
 
 impl Xorshift {
-    fn fresh() -> Xorshift {
+    pub fn fresh() -> Xorshift {
         Xorshift(0x9E37_79B9_7F4A_7C15)
     }
 
@@ -18,15 +18,15 @@ impl Xorshift {
         self.0
     }
 
-    fn below(&mut self, limit: usize) -> usize {
+    pub fn below(&mut self, limit: usize) -> usize {
         (self.next() >> 32) as usize % limit
     }
 
-    fn byte(&mut self) -> u8 {
+    pub fn byte(&mut self) -> u8 {
         self.next() as u8
     }
 
-    fn bytes(&mut self, len: usize) -> Vec<u8> {
+    pub fn bytes(&mut self, len: usize) -> Vec<u8> {
         (0..len).map(|_| self.byte()).collect()
     }
 }
@@ -39,16 +39,20 @@ pub fn clean(format: Format, size: usize) -> Vec<u8> {
 /// As clean, but one frame of ten has a byte changed, dropped or inserted.
 pub fn damaged(format: Format, size: usize) -> Vec<u8> {
     frames(format, size, |frame, rng| {
-        if rng.below(10) > 0 {
-            return;
-        }
-        let at = rng.below(frame.len());
-        match rng.below(3) {
-            0 => frame[at] ^= 1 + rng.below(255) as u8,
-            1 => drop(frame.remove(at)),
-            _ => frame.insert(at, rng.byte()),
+        if rng.below(10) == 0 {
+            damage(frame, rng);
         }
     })
+}
+
+/// Changes, drops or inserts a byte.
+pub fn damage(frame: &mut Vec<u8>, rng: &mut Xorshift) {
+    let at = rng.below(frame.len());
+    match rng.below(3) {
+        0 => frame[at] ^= 1 + rng.below(255) as u8,
+        1 => drop(frame.remove(at)),
+        _ => frame.insert(at, rng.byte()),
+    }
 }
 
 /// Every byte as likely as every other.
@@ -117,22 +121,33 @@ const MESSAGES: [(u8, usize, usize); 10] = [
 fn mgl(rng: &mut Xorshift) -> Vec<u8> {
     let (kind, least, most) = MESSAGES[rng.below(MESSAGES.len())];
     let length = least + 4 * rng.below((most - least) / 4 + 1);
-    let mut frame = vec![5, 2, length as u8, 255 - length as u8, kind, 1, rng.byte(), 1];
-    frame.extend(rng.bytes(length + 8));
-    frame.extend(sums::crc32_by_8(&frame[4..]).to_le_bytes());
-    frame
+    let mut covered = vec![kind, 1, rng.byte(), 1];
+    covered.extend(rng.bytes(length + 8));
+    framed(Format::Mgl, &covered)
 }
 
 fn onflight(rng: &mut Xorshift) -> Vec<u8> {
-    let mut frame = b"BF\x01\x98".to_vec();
-    frame.extend(rng.bytes(152));
-    frame.extend(sums::fletcher_each(&frame));
-    frame
+    framed(Format::OnFlight, &rng.bytes(152))
 }
 
 fn nmea(rng: &mut Xorshift) -> Vec<u8> {
-    let body = sentence(rng);
-    format!("${body}*{:02X}\r\n", sums::xor(body.as_bytes())).into_bytes()
+    framed(Format::Nmea, sentence(rng).as_bytes())
+}
+
+/// The frame of a content with the right checksum: an MGL frame from the type to the last body byte, an OnFlight
+/// payload, or the body of a sentence.
+pub fn framed(format: Format, content: &[u8]) -> Vec<u8> {
+    match format {
+        Format::Mgl => {
+            let length = (content.len() - 12) as u8;
+            [&[5, 2, length, 255 - length], content, &sums::crc32_by_8(content).to_le_bytes()].concat()
+        }
+        Format::OnFlight => {
+            let frame = [b"BF\x01\x98", content].concat();
+            [&frame[..], &sums::fletcher_each(&frame)].concat()
+        }
+        Format::Nmea => [b"$", content, format!("*{:02X}\r\n", sums::xor(content)).as_bytes()].concat(),
+    }
 }
 
 /// The body of a position, or of a sentence of a glider's sensor.

@@ -1,13 +1,16 @@
 //! How fast the library is beside hand-written Rust, beside plain copying, and as the sheet program beside `cat`.
 //!
-//! `tests/speed` builds what it needs and runs it. Arguments choose parts of `captures`, `checksums` and `sheet`; without
-//! one all are measured. `BLOSSOMAXLE_SPEED_MB` is the size of a capture in millions of bytes, 16 without it; the sheet
-//! program's file is 63 times as long.
+//! `tests/speed` builds what it needs and runs it. Arguments choose parts of `captures`, `checksums`, `sheet` and
+//! `readings`; without one all are measured. `BLOSSOMAXLE_SPEED_MB` is the size of a capture in millions of bytes, 16
+//! without it; the sheet program's file is 63 times as long.
 
 mod captures;
 mod checksums;
+mod fields;
+mod messages;
 mod plain;
 mod readers;
+mod readings;
 mod report;
 mod rules;
 mod sheet;
@@ -18,7 +21,7 @@ mod zlib;
 use std::env;
 use std::process::exit;
 
-const PARTS: [&str; 3] = ["captures", "checksums", "sheet"];
+const PARTS: [&str; 4] = ["captures", "checksums", "sheet", "readings"];
 
 fn main() {
     // cargo gives options of its own.
@@ -35,8 +38,12 @@ fn main() {
     if chosen("checksums") {
         checksums::measure();
     }
+    // Before the readings: memory that this process holds counts in the peak of the sheet program.
     if chosen("sheet") {
         sheet::measure(size);
+    }
+    if chosen("readings") {
+        readings::measure();
     }
 }
 

@@ -47,6 +47,9 @@ fn goal(name: &str, piece: usize) -> Goal {
     match (name, piece) {
         ("clean", 4096) => Some(1.0),
         (_, 4096 | 512) => Some(0.8),
+        ("noise", 64) => Some(0.9),
+        (_, 64) => Some(0.8),
+        ("clean", 1) => Some(0.6),
         _ => None,
     }
 }

@@ -61,6 +61,22 @@ pub fn checksums_row(name: &str, len: usize, speeds: impl Iterator<Item = f64>, 
     println!("{}", format!("{row}  {}", judged(ratio(&speeds[1]), goal)).trim_end());
 }
 
+pub fn readings_head(frames: usize) {
+    println!();
+    println!("Readings of fields: nanoseconds for a frame by all readings of a row, over {frames} good frames.");
+    println!("Each reading judges its frame anew. By hand MGL has CRC-32 by slicing by 8, and NMEA one vector pass.");
+    println!("OnFlight by hand reduces Fletcher's sums at each byte, as the reader by hand does: sums of another kind");
+    println!("are faster, and beside them these ratios are lower.");
+    println!("{:<38}{:>9}{:>9}{:>8}", "readings", "library", "by hand", "/hand");
+}
+
+/// A row: seconds for a frame by the library and by hand.
+pub fn readings_row(name: &str, times: [f64; 2], goal: Goal) {
+    let [library, hand] = times.map(|time| time * 1e9);
+    let ratio = hand / library;
+    println!("{name:<38}{library:>9.1}{hand:>9.1}{ratio:>8.2}  {}", judged(ratio, goal));
+}
+
 /// Seconds of the sheet program and of `cat` on a long file, and the program's peak memory on this and on a short one.
 pub fn sheet(sizes: [usize; 2], times: &[f64], peaks: [i64; 2]) {
     let [long, short] = sizes.map(|size| size as f64 / 1e6);

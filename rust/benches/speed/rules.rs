@@ -76,10 +76,10 @@ const fn permitted() -> [bool; 256] {
     table
 }
 
-const DIGITS: &[u8; 16] = b"0123456789ABCDEF";
+pub const DIGITS: &[u8; 16] = b"0123456789ABCDEF";
 
 /// The longest body of a sentence.
-const BODY: usize = 76;
+pub const BODY: usize = 76;
 
 impl Rules for Nmea {
     const FORMAT: Format = Format::Nmea;

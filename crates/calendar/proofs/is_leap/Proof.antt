@@ -1,13 +1,6 @@
-use borrow.Author.Tests.{eq-eqb, ne-eqb}
-use Rattle.calendar.specs.Calendar.{leap}
+use Rattle.calendar.proofs.Years.{by-16, by-4}
 use Rattle.calendar.proofs.is_leap.Statement.{statement}
 use Rattle.calendar.proofs.is_leap.Tie as tie
 
 pub is-leap-spec : {M : Type 1} → statement M
-unfolding leap
-is-leap-spec =
-    tie.close
-    (tie.spec
-    (λ c. simp (eq-eqb _ _ (c .if1 .taken)))
-    (λ c. simp (ne-eqb _ _ (c .before .if1 .left), eq-eqb _ _ (c .if2 .taken)))
-    (λ c. simp (ne-eqb _ _ (c .before .if1 .left), ne-eqb _ _ (c .if2 .left))))
+is-leap-spec = tie.close (tie.spec (λ c. by-16 _ (c .if1 .taken)) (λ c. by-4 _ (c .if1 .left)))

@@ -1,15 +1,38 @@
-use Prim.Native.Nat.{_-_}
+use mathlib.Core.Path.{refl}
+use native.Mathlib.Omega.{arith}
 use borrow.Author.Needs.{needs}
-use Rattle.calendar.proofs.Months.{plain-at, plain-low, plain-high, plain-le}
+use Rattle.calendar.specs.Calendar.{plainDays}
+use Rattle.calendar.proofs.Months.{no-days}
 use Rattle.calendar.proofs.plain_days.Statement.{statement}
 use Rattle.calendar.proofs.plain_days.Tie as tie
 
 pub plain-days-spec : {M : Type 1} → statement M
+unfolding plainDays
 plain-days-spec =
     tie.close
     (tie.spec
-    (λ c. (plain-low _ (c .if1 .taken), search needs))
-    (λ c. (plain-high _ (c .if2 .taken), search needs))
     (λ c. search needs)
     (λ c. search needs)
-    (λ c. (plain-at _ (c .before .if1 .left), plain-le (c .before .before .args .month - 1))))
+    (λ c. search needs)
+    (λ c. search needs)
+    (λ c. search needs)
+    (λ c. search needs)
+    (λ c. search needs)
+    (λ c. search needs)
+    (λ c. search needs)
+    (λ c. search needs)
+    (λ c. search needs)
+    (λ c. search needs)
+    (λ c. rw (c .match .keys1) (refl, omega arith))
+    (λ c. rw (c .match .keys2) (refl, omega arith))
+    (λ c. rw (c .match .keys3) (refl, omega arith))
+    (λ c. rw (c .match .keys4) (refl, omega arith))
+    (λ c. rw (c .match .keys5) (refl, omega arith))
+    (λ c. rw (c .match .keys6) (refl, omega arith))
+    (λ c. rw (c .match .keys7) (refl, omega arith))
+    (λ c. rw (c .match .keys8) (refl, omega arith))
+    (λ c. rw (c .match .keys9) (refl, omega arith))
+    (λ c. rw (c .match .keys10) (refl, omega arith))
+    (λ c. rw (c .match .keys11) (refl, omega arith))
+    (λ c. rw (c .match .keys12) (refl, omega arith))
+    (λ c. (no-days _ (c .match .rest), omega arith)))

@@ -1,5 +1,5 @@
 use borrow.Author.Needs.{needs}
-use mathlib.Core.Path.{_≡_, sym, _∙_}
+use mathlib.Core.Path.{_≡_}
 use lib.ListN.{length, length-map}
 use Rattle.lent.proofs.BytesLaws.{encode-copied}
 use Rattle.lent.proofs.encode.Statement.{statement}
@@ -14,48 +14,11 @@ encode-spec =
     tie.close
     (tie.spec
     (λ c κs. search needs)
-    (λ c. search needs)
     (λ c κs. search needs)
     (λ c. search needs)
     (λ c κs. search needs)
     (λ c. search needs)
-    (λ c κs. search needs)
-    (λ c κs. search needs)
-    (λ c. search needs)
-    (λ c κs. search needs)
-    (λ c κs. search needs)
-    (λ c. search needs)
-    (λ c κs. search needs)
-    (λ c κs. search needs)
-    (λ c. search needs)
-    (λ c κs. search needs)
-    (λ c. sym (held-length (c .before .before .before .before .before .before .before .before .before .before .before .before .before .before .before .before .before .before .before .before .before .before .before .before .before .before .before .before .before .before .before .before .before .before)))
-    (λ c κs. search needs)
     (λ c.
-    let c5 = c .before .before .before .before .before .before .before .before in
-    let c4 = c5 .before .before .before .before .before .before in
-    let c3 = c4 .before .before .before .before .before .before in
-    let c2 = c3 .before .before .before .before .before .before in
-    let c1 = c2 .before .before .before .before .before .before .before in
-    c .before .before .copy6 .kept .1 .0 ∙ c5 .copy5 .kept .1 .0 ∙ c4 .copy4 .kept .1 .0 ∙ c3 .copy3 .kept .1 .0 ∙ c2 .copy2 .kept .1 .0 ∙ c1 .copy .kept .1 .0)
-    (λ c.
-    let c5 = c .before .before .before .before .before .before .before .before in
-    let c4 = c5 .before .before .before .before .before .before in
-    let c3 = c4 .before .before .before .before .before .before in
-    let c2 = c3 .before .before .before .before .before .before in
-    let c1 = c2 .before .before .before .before .before .before .before in
-    let s = c1 .before .before .before .before .before in
-    rw (
-      c .before .before .copy6 .ensures,
-      c5 .copy5 .ensures,
-      c5 .before .before .before .low-bytes5 .ensures,
-      c4 .copy4 .ensures,
-      c4 .before .before .before .low-bytes4 .ensures,
-      c3 .copy3 .ensures,
-      c3 .before .before .before .low-bytes3 .ensures,
-      c2 .copy2 .ensures,
-      c2 .before .before .before .low-bytes2 .ensures,
-      c1 .copy .ensures,
-      c1 .before .before .before .low-bytes .ensures,
-    )
-    (encode-copied (s .args .r) (s .args .bytes .now) (s .pre) (held-length s))))
+    let s = c .before .before .before .before .before .before .before .before .before .before .before .before in
+    rw (c .before .before .copy .ensures, c .before .before .before .before .before .before .before .before .lay .ensures)
+    (encode-copied (c .before .before .before .before .before .before .before .before .before .before .numbers-of .result) (s .args .r) (s .args .bytes .now) (s .pre) (held-length s) (c .before .before .before .before .before .before .before .before .before .before .numbers-of .ensures))))

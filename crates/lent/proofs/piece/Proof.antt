@@ -9,8 +9,11 @@ piece-spec =
     (tie.spec
     (λ c. serve-no-reader _ _ (c .if1 .taken))
     (λ c κs. search needs)
+    (λ c. search needs)
+    (λ c. search needs)
+    (λ c. search needs)
     (λ c κs. search needs)
     (λ c κs. search needs)
     (λ c. search needs)
     (λ c. search needs)
-    (λ c. settles _ _ _ _ _ _ _ (c .before .before .before .before .before .before .before .before .before .before .if1 .left) (c .before .before .before .before .before .before .before .before .decode .ensures) (c .before .before .before .before .before .before .piece .ensures) (c .before .before .settle .ensures)))
+    (λ c. settles (c .before .before .before .before .before .before .before .before .before .before .before .before .before .before .before .before .before .args .reader .now) _ _ (c .before .before .before .before .before .before .before .before .before .before .before .before .before .if1 .left) (c .before .before .before .before .before .before .before .before .before .before .before .numbers-of .ensures) _ _ _ _ _ (c .before .before .before .before .before .before .before .before .piece .ensures) (c .before .before .settle .ensures)))

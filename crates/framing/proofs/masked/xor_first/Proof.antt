@@ -1,24 +1,22 @@
--- The invariant: the fold of what is left of the first n, from x, is their fold.
+-- The invariant: x is the exclusive or of the first i columns.
 use borrow.Author.Needs.{needs}
 use native.Mathlib.Omega.{arith}
-use mathlib.Core.Path.{_≡_, refl, sym, _∙_}
-use mathlib.Core.List.{foldl}
+use native.Mathlib.Numerals.{add-one}
+use mathlib.Core.Path.{_≡_, refl, _∙_}
 use Prim.Native.Nat.{_≤_, _-_}
-use lib.ListN.{length, take, drop}
 use lib.Bits.{bitXor}
-use Rattle.checksum.specs.Xor.{xorOf}
-use Rattle.framing.proofs.SumLaws.{first-more, first-end}
+use Rattle.framing.proofs.SumLaws.{sumTo, column, masked, columns-are}
 use Rattle.framing.proofs.masked.xor_first.Statement.{statement}
 use Rattle.framing.proofs.masked.xor_first.Tie as tie
 
 abbrev Inv-loop : tie.InvT-loop
-Inv-loop s n over x₀ i₀ x i = (i ≤ 80) × (foldl bitXor x (drop i (take n s)) ≡ xorOf (take n s))
+Inv-loop s n over x₀ i₀ x i = (i ≤ 16) × (x ≡ sumTo bitXor (column (masked s (128 - n))) i)
 
 abbrev μ-loop : tie.MeasureT-loop
-μ-loop s n over x₀ i₀ x i = 80 - i
+μ-loop s n over x₀ i₀ x i = 16 - i
 
 pub xor-first-spec : {M : Type 1} → statement M
-unfolding xorOf
+unfolding sumTo
 xor-first-spec =
     tie.close
     (tie.spec
@@ -32,12 +30,29 @@ xor-first-spec =
     (λ c κs. search needs)
     (λ c. search needs)
     (λ c. search needs)
+    (λ c. search needs)
+    (λ c κs. search needs)
+    (λ c. search needs)
+    (λ c. search needs)
+    (λ c. search needs)
+    (λ c κs. search needs)
+    (λ c. search needs)
+    (λ c. search needs)
+    (λ c. search needs)
+    (λ c κs. search needs)
+    (λ c. search needs)
+    (λ c. search needs)
+    (λ c. search needs)
+    (λ c κs. search needs)
+    (λ c. search needs)
+    (λ c. search needs)
     (λ c.
-    let l = c .before .before .before .loop in
-    let a = c .before .before .before .before .before .args in
-    let p = c .before .before .before .before .before .pre in
-    (omega arith, first-more (a .s .now) (a .n) (l .i) (128 - a .n) (l .x) refl (p .0) (c .before .before .loop-test .taken) (omega arith) (c .kept .ensures) ∙ l .inv .1))
+    let k4 = c .before .before in
+    let k3 = k4 .before .before in
+    let k2 = k3 .before .before in
+    let k1 = k2 .before .before in
+    (omega arith, rw (add-one, k1 .before .before .before .loop .inv .1, k1 .kept .ensures, k2 .kept2 .ensures, k3 .kept3 .ensures, k4 .kept4 .ensures, c .kept5 .ensures)))
     (λ c.
     let a = c .before .before .before .args in
-    let p = c .before .before .before .pre in
-    sym (first-end (a .s .now) (a .n) (c .before .loop .i) _ (omega arith) (omega arith)) ∙ c .before .loop .inv .1))
+    let e : c .before .loop .i ≡ 16 = omega arith in
+    c .before .loop .inv .1 ∙ rw e (columns-are (a .s .now) (a .n) (omega arith) (omega arith))))

@@ -2,7 +2,7 @@ use borrow.Author.Needs.{needs}
 use mathlib.Core.Path.{_∙_}
 use Rattle.framing.specs.Format.{formatOf}
 use Rattle.nmea.specs.Rmc.{positionOf}
-use Rattle.sentence.proofs.JudgeLaws.{judged-refused, judged-done}
+use Rattle.sentence.proofs.JudgeLaws.{judged-refused, judged-body, judged-done}
 use Rattle.nmea.proofs.rmc.read_position.Statement.{statement}
 use Rattle.nmea.proofs.rmc.read_position.Tie as tie
 
@@ -17,4 +17,7 @@ read-position-spec =
     (λ c. search needs)
     (λ c κs. search needs)
     (λ c κs. search needs)
-    (λ c. (rw (c .before .body .ensures) at (c .position-of .ensures)) ∙ judged-done _ _ _ _ _ _ (c .before .before .before .before .judge .ensures) (c .before .before .enum-told .given .1)))
+    (λ c.
+    let j = c .before .before .before .before .judge .ensures in
+    let d = c .before .before .enum-told .given .1 in
+    (rw (c .before .between .ensures, judged-body _ _ _ _ j d) at (c .position-of .ensures)) ∙ judged-done _ _ _ _ _ _ j d))

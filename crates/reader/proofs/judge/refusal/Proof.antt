@@ -1,11 +1,9 @@
 use borrow.Author.Needs.{needs}
 use mathlib.Core.Path.{_∙_}
-use Rattle.reader.specs.Refusal.{refusal}
 use Rattle.reader.proofs.judge.refusal.Statement.{statement}
 use Rattle.reader.proofs.judge.refusal.Tie as tie
 
 pub refusal-spec : {M : Type 1} → statement M
-unfolding refusal
 refusal-spec =
     tie.close
     (tie.spec
