@@ -1,10 +1,10 @@
 /*
  * Blossomaxle for C: readers and writers of the MGL EFIS feed (format 1), the OnFlight log (2) and NMEA with the LARUS
- * sentences (3), and the contents of bench files. docs/INTERFACE.md says what each function gives.
+ * sentences (3), and the tables of contents of bench files. docs/INTERFACE.md says what each function gives.
  *
  * Every call ends, for any bytes and lengths. A number answered is 0 for done, or the number of a refusal; a refusal's values are
- * zeros, and it changes no lent byte. (Only capture_fresh, refusing an unknown format, lays the refused reader in the reader's bytes.)
- * capture_frame_len and capture_gyro refuse nothing: they answer a length and a rate.
+ * zeros, and it changes no lent byte. (Only capture_fresh, refusing an unknown format, writes the refused reader to the
+ * reader's bytes.) capture_frame_len and capture_gyro refuse nothing: they answer a length and a rate.
  *
  * Lent areas must not overlap and must be initialised. A pointer may be null only with length 0.
  */
@@ -21,14 +21,14 @@ extern "C" {
 /* The bytes of a reader: five words of four bytes, low byte first (format, closed, framed, skipped, pending), and 275 held bytes. */
 #define CAPTURE_READER_LEN 295
 
-/* The longest piece, and a room that takes the frames of every piece: a piece, and what can be pending. */
+/* The longest piece, and an output that takes the frames of every piece: a piece, and what can be pending. */
 #define CAPTURE_LONGEST_PIECE 4096
-#define CAPTURE_ROOM 4371
+#define CAPTURE_MAX_OUTPUT 4371
 
-/* The longest contents of a bench file. */
-#define CAPTURE_LONGEST_CONTENTS 97
+/* The longest table of contents of a bench file. */
+#define CAPTURE_LONGEST_TOC 97
 
-/* A number, and the values of a reading in the order of its row below; those that it does not have are 0. */
+/* A number, and the values of a field function in the order of its row below; those that it does not have are 0. */
 #define CAPTURE_VALUES 21
 struct capture_values {
     uint32_t number;
@@ -48,13 +48,13 @@ struct capture_written {
 
 /* ---- readers: refusals 11, 2, 1, 3, 4 */
 
-/* A fresh reader of a format, laid in the reader's bytes. */
+/* Writes a fresh reader of a format to the reader's bytes. */
 uint32_t capture_fresh(uint32_t format, uint8_t *reader, size_t reader_len);
 
-/* Reads a piece. Its frames are laid back to back from the start of out, as many bytes as the reader's framed grows by. */
+/* Reads a piece. Its frames are copied back to back to the start of out, as many bytes as the reader's framed grows by. */
 uint32_t capture_piece(uint8_t *reader, size_t reader_len, const uint8_t *piece, size_t piece_len, uint8_t *out, size_t out_len);
 
-/* Ends the line: what the closing reading adds is laid in out in the same way. */
+/* Ends the line: what the closing reading adds is copied to out in the same way. */
 uint32_t capture_close(uint8_t *reader, size_t reader_len, uint8_t *out, size_t out_len);
 
 /* ---- frames */
@@ -62,11 +62,11 @@ uint32_t capture_close(uint8_t *reader, size_t reader_len, uint8_t *out, size_t 
 /* The length of the frame that the bytes begin with, or 0 where they begin with none or the format is unknown. */
 size_t capture_frame_len(uint32_t format, const uint8_t *bytes, size_t bytes_len);
 
-/* ---- readings of one whole frame: refusals 7, 8, 9 */
+/* ---- field functions, of one whole frame: refusals 7, 8, 9 */
 
-/* capture_read; item is the tank's number, from 0, and is not looked at by the others */
+/* capture_read, by the field function's number; item is the tank's number, from 0, and is not looked at by the others */
 #define CAPTURE_MGL_BODY 100            /* start, end */
-#define CAPTURE_MGL_HEADER 101          /* type, rate, count, version */
+#define CAPTURE_MGL_HEADER 101          /* message type, rate, count, version */
 #define CAPTURE_MGL_GPS 102             /* latitude, longitude, altitude, AGL, north, east, down, ground speed, track, variation, mode,
                                            tracked, visible, horizontal and vertical accuracy, capability, RAIM, its horizontal and
                                            vertical error, valid (0 in mode 0, where nothing is, else 1), altitude valid (1 or 0) */
@@ -92,12 +92,12 @@ size_t capture_frame_len(uint32_t format, const uint8_t *bytes, size_t bytes_len
 #define CAPTURE_RMC_POSITION 302        /* latitude, longitude */
 #define CAPTURE_RMC_STATUS 303          /* the letter: 'A' or 'V' */
 #define CAPTURE_PLARS_SETTING 304       /* source letter, parameter, value in steps of the last decimal */
-struct capture_values capture_read(uint32_t reading, uint32_t item, const uint8_t *frame, size_t frame_len);
+struct capture_values capture_read(uint32_t function, uint32_t item, const uint8_t *frame, size_t frame_len);
 
 /* capture_ratio */
 #define CAPTURE_ONFLIGHT_INPUT_VOLTAGE 214 /* volts */
 #define CAPTURE_ONFLIGHT_LOAD_FACTOR 215   /* g */
-struct capture_ratio capture_ratio(uint32_t reading, const uint8_t *frame, size_t frame_len);
+struct capture_ratio capture_ratio(uint32_t function, const uint8_t *frame, size_t frame_len);
 
 /* Milliseconds from one OnFlight frame to another; one value. */
 struct capture_values capture_elapsed(const uint8_t *from, size_t from_len, const uint8_t *to, size_t to_len);
@@ -118,7 +118,7 @@ struct capture_values capture_write_gyro(int32_t rate);
 
 /* ---- writers: refusals 5 or 9, then 6 */
 
-/* A whole frame. The header is MGL's type, rate, count and version, low byte first; the other formats do not look at it. */
+/* A whole frame. The header is MGL's message type, rate, count and version, low byte first; other formats do not look at it. */
 struct capture_written capture_write(uint32_t format, uint32_t header, const uint8_t *body, size_t body_len, uint8_t *out, size_t out_len);
 
 /* A PLARS sentence: source 'L' or 'H', parameter 0 to 3 for MC, BAL, BUGS, QNH, value in steps of the last decimal. */

@@ -1,10 +1,10 @@
-//! Finds the proved library `libcapi.a`, or has it built, and links it.
+//! Finds the proved library `libcapture.a`, or has it built, and links it.
 
 use std::env;
 use std::path::{Path, PathBuf};
 use std::process::{exit, Command};
 
-const ARCHIVE: &str = "libcapi.a";
+const ARCHIVE: &str = "libcapture.a";
 
 fn main() {
     println!("cargo:rerun-if-env-changed=BLOSSOMAXLE_LIB_DIR");
@@ -15,7 +15,7 @@ fn main() {
     };
     println!("cargo:rerun-if-changed={}", dir.join(ARCHIVE).display());
     println!("cargo:rustc-link-search=native={}", dir.display());
-    println!("cargo:rustc-link-lib=static=capi");
+    println!("cargo:rustc-link-lib=static=capture");
 }
 
 fn check_target() {
@@ -30,7 +30,7 @@ fn check_target() {
 fn given(dir: PathBuf) -> PathBuf {
     if !dir.join(ARCHIVE).is_file() {
         stop(&format!(
-            "no {ARCHIVE} in BLOSSOMAXLE_LIB_DIR ({}): build it with `rt staticlib capi`, or unset the variable",
+            "no {ARCHIVE} in BLOSSOMAXLE_LIB_DIR ({}): build it with `rt staticlib capture`, or unset the variable",
             dir.display()
         ));
     }
@@ -42,13 +42,13 @@ fn built() -> PathBuf {
     let top = Path::new(env!("CARGO_MANIFEST_DIR")).join("..");
     let dir = top.join("target").join("staticlib");
     if !dir.join(ARCHIVE).is_file() {
-        let why = match Command::new("rt").args(["staticlib", "capi"]).current_dir(&top).status() {
+        let why = match Command::new("rt").args(["staticlib", "capture"]).current_dir(&top).status() {
             Ok(_) if dir.join(ARCHIVE).is_file() => return dir,
-            Ok(_) => "`rt staticlib capi` did not make it".to_string(),
+            Ok(_) => "`rt staticlib capture` did not make it".to_string(),
             Err(error) => format!("`rt` cannot be run ({error})"),
         };
         stop(&format!(
-            "no target/staticlib/{ARCHIVE}, and {why}: run `rt staticlib capi` in the repository's top folder, \
+            "no target/staticlib/{ARCHIVE}, and {why}: run `rt staticlib capture` in the repository's top folder, \
              or set BLOSSOMAXLE_LIB_DIR to a folder that has the archive"
         ));
     }

@@ -25,7 +25,7 @@ static void readers(void)
 {
     const char *line = "x$$PLARB,12.33*4C\r\n";
     const uint8_t *bytes = (const uint8_t *)line;
-    uint8_t reader[CAPTURE_READER_LEN], before[CAPTURE_READER_LEN], out[CAPTURE_ROOM];
+    uint8_t reader[CAPTURE_READER_LEN], before[CAPTURE_READER_LEN], out[CAPTURE_MAX_OUTPUT];
 
     memset(reader, 0xAA, sizeof reader);
     memset(out, 0x55, sizeof out);
@@ -33,7 +33,7 @@ static void readers(void)
     expect(capture_piece(reader, sizeof reader, bytes, 9, out, sizeof out) == 0, "a first piece");
     expect(word(reader, 4) == 7 && word(reader, 3) == 2, "pending and skipped");
     memcpy(before, reader, sizeof reader);
-    expect(capture_piece(reader, sizeof reader, bytes + 9, 10, out, 16) == 4, "a room that is too small");
+    expect(capture_piece(reader, sizeof reader, bytes + 9, 10, out, 16) == 4, "an output that is too small");
     expect(memcmp(before, reader, sizeof reader) == 0 && out[0] == 0x55, "a refusal changes nothing");
     expect(capture_piece(reader, sizeof reader, bytes + 9, 10, out, sizeof out) == 0, "a second piece");
     expect(word(reader, 2) == 17 && memcmp(out, line + 2, 17) == 0 && out[17] == 0x55, "the frame");
@@ -80,7 +80,7 @@ static void frames(void)
     expect(capture_read(CAPTURE_MGL_GPS, 0, frame, 44).number == 8, "another message");
     expect(capture_read(CAPTURE_MGL_CLOCK, 0, frame, 43).number == 7, "no whole frame");
     expect(capture_read(CAPTURE_MGL_CLOCK, 0, NULL, 0).number == 7, "no bytes");
-    expect(capture_read(0, 0, frame, 44).number == 7, "no reading");
+    expect(capture_read(0, 0, frame, 44).number == 7, "no field function");
     expect(capture_write(1, 0, body, 13, frame, sizeof frame).number == 5, "a body of 13 bytes");
     expect(capture_write(9, 0, NULL, 0, NULL, 0).number == 5, "a frame of no format");
 
@@ -99,13 +99,13 @@ static void frames(void)
     expect(w.number == 0 && memcmp(frame, "$PLARS,L,QNH,1013.2*", 20) == 0, "a setting");
     v = capture_read(CAPTURE_PLARS_SETTING, 0, frame, w.length);
     expect(v.number == 0 && v.values[0] == 'L' && v.values[1] == 3 && v.values[2] == 10132, "the setting read");
-    expect(capture_write_setting('L', 3, 10132, NULL, 0).number == 6, "no room");
+    expect(capture_write_setting('L', 3, 10132, NULL, 0).number == 6, "no output");
     expect(capture_write_setting('X', 3, 10132, NULL, 0).number == 9, "no source");
 }
 
 static void numbers(void)
 {
-    const uint8_t contents[] = {1, 3, 2, 0, 0, 0, 0};
+    const uint8_t toc[] = {1, 3, 2, 0, 0, 0, 0};
     const uint8_t longer[] = {1, 3, 2, 0, 0, 0, 0, 255};
     struct capture_values v;
 
@@ -113,12 +113,12 @@ static void numbers(void)
     v = capture_write_gyro(34530);
     expect(v.number == 0 && v.values[0] == 16953, "a gyro number written");
     expect(capture_write_gyro(34531).number == 9, "a rate that no gyro number gives");
-    v = capture_entry(contents, sizeof contents, 7, 0);
+    v = capture_entry(toc, sizeof toc, 7, 0);
     expect(v.number == 0 && v.values[0] == 1 && v.values[1] == 3 && v.values[2] == 2 && v.values[4] == 7, "an entry");
-    expect(capture_entry(contents, sizeof contents, 8, 0).number == 10, "another length");
+    expect(capture_entry(toc, sizeof toc, 8, 0).number == 10, "another length");
     expect(capture_entry(longer, sizeof longer, 7, 0).number == 0, "more bytes than the file has");
-    expect(capture_entry(contents, sizeof contents, 7, 1).number == 9, "an entry past the last");
-    expect(capture_entry(NULL, 0, 0, 0).number == 10, "contents of no bytes");
+    expect(capture_entry(toc, sizeof toc, 7, 1).number == 9, "an entry past the last");
+    expect(capture_entry(NULL, 0, 0, 0).number == 10, "a table of contents of no bytes");
 }
 
 int main(void)

@@ -26,7 +26,7 @@ fn main() -> Result<(), Box<dyn Error>> {
     Ok(stdout().write_all(&bytes)?)
 }
 
-/// The contents, and then one capture of each format; the ports are numbered like the formats.
+/// The table of contents, and then one capture of each format; the ports are numbered like the formats.
 fn bench_file(rng: &mut Prng, length: usize) -> Vec<u8> {
     let captures = oracle::FORMATS.map(|format| generate::capture(rng, format, length));
     let mut bytes = vec![captures.len() as u8];

@@ -4,7 +4,7 @@ use crate::ffi;
 use crate::row::Row;
 use crate::Refusal;
 
-/// Lays a fresh reader in the reader's bytes.
+/// Writes a fresh reader to the reader's bytes.
 pub fn fresh(format: u32, reader: &mut [u8]) -> Result<(), Refusal> {
     // SAFETY: the slice is initialised and lent to this call alone.
     let number = unsafe { ffi::capture_fresh(format, reader.as_mut_ptr(), reader.len()) };
@@ -12,25 +12,18 @@ pub fn fresh(format: u32, reader: &mut [u8]) -> Result<(), Refusal> {
 }
 
 /// Reads a piece.
-pub fn piece(reader: &mut [u8], piece: &[u8], room: &mut [u8]) -> Result<(), Refusal> {
+pub fn piece(reader: &mut [u8], piece: &[u8], out: &mut [u8]) -> Result<(), Refusal> {
     // SAFETY: the slices are initialised; two of them are lent mutably, so that none overlaps another.
     let number = unsafe {
-        ffi::capture_piece(
-            reader.as_mut_ptr(),
-            reader.len(),
-            piece.as_ptr(),
-            piece.len(),
-            room.as_mut_ptr(),
-            room.len(),
-        )
+        ffi::capture_piece(reader.as_mut_ptr(), reader.len(), piece.as_ptr(), piece.len(), out.as_mut_ptr(), out.len())
     };
     Refusal::judge(number)
 }
 
 /// Ends the line.
-pub fn close(reader: &mut [u8], room: &mut [u8]) -> Result<(), Refusal> {
+pub fn close(reader: &mut [u8], out: &mut [u8]) -> Result<(), Refusal> {
     // SAFETY: both slices are initialised and lent mutably, so that they do not overlap.
-    let number = unsafe { ffi::capture_close(reader.as_mut_ptr(), reader.len(), room.as_mut_ptr(), room.len()) };
+    let number = unsafe { ffi::capture_close(reader.as_mut_ptr(), reader.len(), out.as_mut_ptr(), out.len()) };
     Refusal::judge(number)
 }
 
@@ -40,27 +33,27 @@ pub fn frame_len(format: u32, bytes: &[u8]) -> usize {
     unsafe { ffi::capture_frame_len(format, bytes.as_ptr(), bytes.len()) }
 }
 
-/// A reading of a frame.
-pub fn read(reading: u32, frame: &[u8]) -> Result<Row, Refusal> {
-    read_item(reading, 0, frame)
+/// The values that a field function answers for a frame.
+pub fn read(function: u32, frame: &[u8]) -> Result<Row, Refusal> {
+    read_item(function, 0, frame)
 }
 
-/// A reading of an item of a frame.
-pub fn read_item(reading: u32, item: u32, frame: &[u8]) -> Result<Row, Refusal> {
+/// The values that a field function answers for an item of a frame.
+pub fn read_item(function: u32, item: u32, frame: &[u8]) -> Result<Row, Refusal> {
     // SAFETY: the slice is initialised and only read.
-    Row::judge(unsafe { ffi::capture_read(reading, item, frame.as_ptr(), frame.len()) })
+    Row::judge(unsafe { ffi::capture_read(function, item, frame.as_ptr(), frame.len()) })
 }
 
-/// The part of a frame that a reading of its place names.
-pub fn part(reading: u32, frame: &[u8]) -> Result<&[u8], Refusal> {
-    let mut row = read(reading, frame)?;
+/// The part of a frame whose place a field function answers.
+pub fn part(function: u32, frame: &[u8]) -> Result<&[u8], Refusal> {
+    let mut row = read(function, frame)?;
     Ok(&frame[row.next()..row.next()])
 }
 
-/// A reading of a frame that is a float.
-pub fn ratio(reading: u32, frame: &[u8]) -> Result<f64, Refusal> {
+/// The float that a field function answers for a frame.
+pub fn ratio(function: u32, frame: &[u8]) -> Result<f64, Refusal> {
     // SAFETY: the slice is initialised and only read.
-    let answer = unsafe { ffi::capture_ratio(reading, frame.as_ptr(), frame.len()) };
+    let answer = unsafe { ffi::capture_ratio(function, frame.as_ptr(), frame.len()) };
     Refusal::judge(answer.number).map(|()| answer.value)
 }
 
@@ -83,18 +76,17 @@ pub fn write_gyro(rate: i32) -> Result<Row, Refusal> {
 }
 
 /// Writes a whole frame.
-pub fn write(format: u32, header: [u8; 4], body: &[u8], room: &mut [u8]) -> Result<usize, Refusal> {
+pub fn write(format: u32, header: [u8; 4], body: &[u8], out: &mut [u8]) -> Result<usize, Refusal> {
     let header = u32::from_le_bytes(header);
-    // SAFETY: the slices are initialised; the room is lent mutably, so that the body does not overlap it.
-    let written =
-        unsafe { ffi::capture_write(format, header, body.as_ptr(), body.len(), room.as_mut_ptr(), room.len()) };
+    // SAFETY: the slices are initialised; the output is lent mutably, so that the body does not overlap it.
+    let written = unsafe { ffi::capture_write(format, header, body.as_ptr(), body.len(), out.as_mut_ptr(), out.len()) };
     Refusal::judge(written.number).map(|()| written.length)
 }
 
 /// Writes a PLARS sentence.
-pub fn write_setting(source: u8, parameter: u8, value: u32, room: &mut [u8]) -> Result<usize, Refusal> {
-    // SAFETY: the room is initialised and lent to this call alone.
-    let written = unsafe { ffi::capture_write_setting(source, parameter, value, room.as_mut_ptr(), room.len()) };
+pub fn write_setting(source: u8, parameter: u8, value: u32, out: &mut [u8]) -> Result<usize, Refusal> {
+    // SAFETY: the output is initialised and lent to this call alone.
+    let written = unsafe { ffi::capture_write_setting(source, parameter, value, out.as_mut_ptr(), out.len()) };
     Refusal::judge(written.number).map(|()| written.length)
 }
 

@@ -1,10 +1,10 @@
 //! The library's functions and numbers, as `include/capture.h` has them. Nothing checks these declarations against
 //! the library but the tests: a wrong one is undefined behaviour, and not an error.
 
-/// How many values an answer has room for.
+/// How many values an answer holds.
 pub const VALUES: usize = 21;
 
-/// A number, and the values of a reading.
+/// A number, and the values of a field function.
 #[repr(C)]
 #[derive(Clone, Copy, Debug, PartialEq, Eq)]
 pub struct Values {
@@ -28,8 +28,8 @@ pub struct Written {
     pub length: usize,
 }
 
-/// The reading numbers of `capture_read`.
-pub mod reading {
+/// The field functions of `capture_read`, by their numbers.
+pub mod function {
     pub const MGL_BODY: u32 = 100;
     pub const MGL_HEADER: u32 = 101;
     pub const MGL_GPS: u32 = 102;
@@ -57,7 +57,7 @@ pub mod reading {
     pub const PLARS_SETTING: u32 = 304;
 }
 
-/// The reading numbers of `capture_ratio`.
+/// The field functions of `capture_ratio`, by their numbers.
 pub mod ratio {
     pub const ONFLIGHT_INPUT_VOLTAGE: u32 = 214;
     pub const ONFLIGHT_LOAD_FACTOR: u32 = 215;
@@ -79,9 +79,9 @@ extern "C" {
 
     pub fn capture_frame_len(format: u32, bytes: *const u8, bytes_len: usize) -> usize;
 
-    pub fn capture_read(reading: u32, item: u32, frame: *const u8, frame_len: usize) -> Values;
+    pub fn capture_read(function: u32, item: u32, frame: *const u8, frame_len: usize) -> Values;
 
-    pub fn capture_ratio(reading: u32, frame: *const u8, frame_len: usize) -> Ratio;
+    pub fn capture_ratio(function: u32, frame: *const u8, frame_len: usize) -> Ratio;
 
     pub fn capture_elapsed(from: *const u8, from_len: usize, to: *const u8, to_len: usize) -> Values;
 

@@ -22,13 +22,13 @@ pub fn frame_len(format: Format, bytes: &[u8]) -> Option<usize> {
 /// The frames that stand back to back in bytes which a [`Reader`](crate::Reader) handed out.
 ///
 /// ```
-/// use blossomaxle::{Format, Frames, Reader, ROOM};
+/// use blossomaxle::{Format, Frames, Reader, MAX_OUTPUT};
 ///
 /// # fn main() -> Result<(), blossomaxle::Refusal> {
 /// let mut reader = Reader::fresh(Format::Nmea)?;
-/// let mut room = [0; ROOM];
-/// let handed = reader.piece(b"$A*41\r\nnoise$PLARB,12.33*4C\r\n", &mut room)?;
-/// let frames: Vec<&[u8]> = Frames::new(Format::Nmea, &room[..handed]).collect();
+/// let mut out = [0; MAX_OUTPUT];
+/// let handed = reader.piece(b"$A*41\r\nnoise$PLARB,12.33*4C\r\n", &mut out)?;
+/// let frames: Vec<&[u8]> = Frames::new(Format::Nmea, &out[..handed]).collect();
 /// assert_eq!(frames, [&b"$A*41\r\n"[..], b"$PLARB,12.33*4C\r\n"]);
 /// # Ok(())
 /// # }

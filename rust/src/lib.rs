@@ -7,7 +7,8 @@
 //!
 //! A [`Reader`] takes a line in pieces and hands out its frames, which [`Frames`] takes one by one;
 //! [`frame_len`] gives the length of one. [`mgl`], [`onflight`] and [`nmea`] read the fields of one frame and write
-//! frames. [`bench`](mod@bench) has the contents of files with several captures. What is refused is a [`Refusal`].
+//! frames. [`bench`](mod@bench) reads the table of contents of a file with several captures. What is refused is a
+//! [`Refusal`].
 
 #![deny(missing_docs)]
 #![warn(unsafe_op_in_unsafe_fn)]
@@ -29,7 +30,7 @@ pub mod onflight;
 pub use clock::{Clock, Field};
 pub use format::Format;
 pub use frames::{frame_len, Frames};
-pub use reader::{Numbers, Reader, LONGEST_PIECE, READER_LEN, ROOM};
+pub use reader::{Counts, Reader, LONGEST_PIECE, MAX_OUTPUT, READER_LEN};
 pub use refusal::Refusal;
 
 /// The repository's README, whose Rust example is run as a test.

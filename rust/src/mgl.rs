@@ -1,17 +1,17 @@
 //! Format 1, the MGL EFIS feed: header, GPS, fuel tanks, clock and gyro numbers of a frame, and the writer.
 //!
-//! Each reading takes one whole frame, and refuses with [`Refusal::NotOneFrame`], [`Refusal::OtherMessage`] and
+//! Each field function takes one whole frame, and refuses with [`Refusal::NotOneFrame`], [`Refusal::OtherMessage`] and
 //! [`Refusal::OutOfForm`], in this order. Numbers are as they stand in the frame.
 
 use crate::call;
-use crate::ffi::reading;
+use crate::ffi::function;
 use crate::{Clock, Format, Refusal};
 
 /// What stands before the body of a frame.
 #[derive(Clone, Copy, Debug, PartialEq, Eq, Hash)]
 pub struct Header {
     /// The type of the message.
-    pub message: u8,
+    pub message_type: u8,
     /// How many of it are sent a second.
     pub rate: u8,
     /// Its number within the second.
@@ -85,13 +85,13 @@ pub struct Tank {
 /// ```
 /// use blossomaxle::mgl;
 ///
-/// let header = mgl::Header { message: 9, rate: 0, count: 0, version: 1 };
-/// let mut room = [0; 276];
-/// let length = mgl::write(header, b"twelve bytes", &mut room).unwrap();
-/// assert_eq!(mgl::body(&room[..length]), Ok(&b"twelve bytes"[..]));
+/// let header = mgl::Header { message_type: 9, rate: 0, count: 0, version: 1 };
+/// let mut out = [0; 276];
+/// let length = mgl::write(header, b"twelve bytes", &mut out).unwrap();
+/// assert_eq!(mgl::body(&out[..length]), Ok(&b"twelve bytes"[..]));
 /// ```
 pub fn body(frame: &[u8]) -> Result<&[u8], Refusal> {
-    call::part(reading::MGL_BODY, frame)
+    call::part(function::MGL_BODY, frame)
 }
 
 /// The header of a frame.
@@ -99,14 +99,14 @@ pub fn body(frame: &[u8]) -> Result<&[u8], Refusal> {
 /// ```
 /// use blossomaxle::mgl;
 ///
-/// let header = mgl::Header { message: 9, rate: 3, count: 20, version: 1 };
-/// let mut room = [0; 24];
-/// mgl::write(header, &[0; 12], &mut room).unwrap();
-/// assert_eq!(mgl::header(&room), Ok(header));
+/// let header = mgl::Header { message_type: 9, rate: 3, count: 20, version: 1 };
+/// let mut out = [0; 24];
+/// mgl::write(header, &[0; 12], &mut out).unwrap();
+/// assert_eq!(mgl::header(&out), Ok(header));
 /// ```
 pub fn header(frame: &[u8]) -> Result<Header, Refusal> {
-    let mut row = call::read(reading::MGL_HEADER, frame)?;
-    Ok(Header { message: row.next(), rate: row.next(), count: row.next(), version: row.next() })
+    let mut row = call::read(function::MGL_HEADER, frame)?;
+    Ok(Header { message_type: row.next(), rate: row.next(), count: row.next(), version: row.next() })
 }
 
 /// The GPS message of a frame.
@@ -114,18 +114,18 @@ pub fn header(frame: &[u8]) -> Result<Header, Refusal> {
 /// ```
 /// use blossomaxle::mgl;
 ///
-/// let header = mgl::Header { message: 2, rate: 0, count: 0, version: 1 };
+/// let header = mgl::Header { message_type: 2, rate: 0, count: 0, version: 1 };
 /// let mut body = [0; 44];
 /// body[0..4].copy_from_slice(&(-8_900_000i32).to_le_bytes());
 /// body[34] = 2;
-/// let mut room = [0; 56];
-/// mgl::write(header, &body, &mut room).unwrap();
-/// let gps = mgl::gps(&room).unwrap();
+/// let mut out = [0; 56];
+/// mgl::write(header, &body, &mut out).unwrap();
+/// let gps = mgl::gps(&out).unwrap();
 /// assert_eq!((gps.latitude, gps.mode), (-8_900_000, 2));
 /// assert!(gps.valid && !gps.altitude_valid);
 /// ```
 pub fn gps(frame: &[u8]) -> Result<Gps, Refusal> {
-    let mut row = call::read(reading::MGL_GPS, frame)?;
+    let mut row = call::read(function::MGL_GPS, frame)?;
     Ok(Gps {
         latitude: row.next(),
         longitude: row.next(),
@@ -156,14 +156,14 @@ pub fn gps(frame: &[u8]) -> Result<Gps, Refusal> {
 /// ```
 /// use blossomaxle::mgl;
 ///
-/// let header = mgl::Header { message: 11, rate: 0, count: 0, version: 1 };
+/// let header = mgl::Header { message_type: 11, rate: 0, count: 0, version: 1 };
 /// let body = [2, 0, 0, 0, 50, 0, 0, 0, 1, 1, 0, 2, 60, 0, 0, 0, 1, 0, 0, 2];
-/// let mut room = [0; 32];
-/// mgl::write(header, &body, &mut room).unwrap();
-/// assert_eq!(mgl::fuel_count(&room), Ok(2));
+/// let mut out = [0; 32];
+/// mgl::write(header, &body, &mut out).unwrap();
+/// assert_eq!(mgl::fuel_count(&out), Ok(2));
 /// ```
 pub fn fuel_count(frame: &[u8]) -> Result<u32, Refusal> {
-    Ok(call::read(reading::MGL_FUEL_COUNT, frame)?.next())
+    Ok(call::read(function::MGL_FUEL_COUNT, frame)?.next())
 }
 
 /// A tank of a fuel message, numbered from 0; one past the last is [`Refusal::OutOfForm`].
@@ -171,14 +171,14 @@ pub fn fuel_count(frame: &[u8]) -> Result<u32, Refusal> {
 /// ```
 /// use blossomaxle::{mgl, Refusal};
 ///
-/// let header = mgl::Header { message: 11, rate: 0, count: 0, version: 1 };
-/// let mut room = [0; 24];
-/// mgl::write(header, &[1, 0, 0, 0, 50, 0, 0, 0, 1, 1, 0, 2], &mut room).unwrap();
-/// assert_eq!(mgl::fuel_tank(&room, 0), Ok(mgl::Tank { level: 50, kind: 1, on: 1, sensors: 512 }));
-/// assert_eq!(mgl::fuel_tank(&room, 1), Err(Refusal::OutOfForm));
+/// let header = mgl::Header { message_type: 11, rate: 0, count: 0, version: 1 };
+/// let mut out = [0; 24];
+/// mgl::write(header, &[1, 0, 0, 0, 50, 0, 0, 0, 1, 1, 0, 2], &mut out).unwrap();
+/// assert_eq!(mgl::fuel_tank(&out, 0), Ok(mgl::Tank { level: 50, kind: 1, on: 1, sensors: 512 }));
+/// assert_eq!(mgl::fuel_tank(&out, 1), Err(Refusal::OutOfForm));
 /// ```
 pub fn fuel_tank(frame: &[u8], item: u32) -> Result<Tank, Refusal> {
-    let mut row = call::read_item(reading::MGL_FUEL_TANK, item, frame)?;
+    let mut row = call::read_item(function::MGL_FUEL_TANK, item, frame)?;
     Ok(Tank { level: row.next(), kind: row.next(), on: row.next(), sensors: row.next() })
 }
 
@@ -187,15 +187,15 @@ pub fn fuel_tank(frame: &[u8], item: u32) -> Result<Tank, Refusal> {
 /// ```
 /// use blossomaxle::{mgl, Clock};
 ///
-/// let header = mgl::Header { message: 1, rate: 0, count: 0, version: 1 };
+/// let header = mgl::Header { message_type: 1, rate: 0, count: 0, version: 1 };
 /// let mut body = [0; 32];
 /// body[24..30].copy_from_slice(&[13, 49, 43, 17, 6, 23]);
-/// let mut room = [0; 44];
-/// mgl::write(header, &body, &mut room).unwrap();
-/// assert_eq!(mgl::clock(&room), Ok(Clock::Good(1_687_009_783)));
+/// let mut out = [0; 44];
+/// mgl::write(header, &body, &mut out).unwrap();
+/// assert_eq!(mgl::clock(&out), Ok(Clock::Good(1_687_009_783)));
 /// ```
 pub fn clock(frame: &[u8]) -> Result<Clock, Refusal> {
-    call::read(reading::MGL_CLOCK, frame).map(Clock::from_row)
+    call::read(function::MGL_CLOCK, frame).map(Clock::from_row)
 }
 
 /// The rate that a gyro number stands for, in hundredths of a degree a second.
@@ -222,22 +222,22 @@ pub fn write_gyro(rate: i32) -> Result<i16, Refusal> {
     Ok(call::write_gyro(rate)?.next())
 }
 
-/// Writes a frame at the start of the room, and says how long it is: 12 bytes more than the body.
+/// Writes a frame at the start of the output, and says how long it is: 12 bytes more than the body.
 ///
-/// A body whose length is no multiple of 4 from 12 to 264 is [`Refusal::NotWritable`]; a room that is too small is
-/// then [`Refusal::FrameTooLong`].
+/// A body whose length is no multiple of 4 from 12 to 264 is [`Refusal::NotWritable`]; an output that is too small is
+/// then [`Refusal::OutputTooSmall`].
 ///
 /// ```
 /// use blossomaxle::{mgl, Refusal};
 ///
-/// let header = mgl::Header { message: 9, rate: 0, count: 0, version: 1 };
-/// let mut room = [0; 30];
-/// assert_eq!(mgl::write(header, &[0; 13], &mut room), Err(Refusal::NotWritable));
-/// assert_eq!(mgl::write(header, &[0; 20], &mut room), Err(Refusal::FrameTooLong));
-/// assert_eq!(mgl::write(header, &[0; 16], &mut room), Ok(28));
-/// assert_eq!(room[..8], [5, 2, 8, 247, 9, 0, 0, 1]);
+/// let header = mgl::Header { message_type: 9, rate: 0, count: 0, version: 1 };
+/// let mut out = [0; 30];
+/// assert_eq!(mgl::write(header, &[0; 13], &mut out), Err(Refusal::NotWritable));
+/// assert_eq!(mgl::write(header, &[0; 20], &mut out), Err(Refusal::OutputTooSmall));
+/// assert_eq!(mgl::write(header, &[0; 16], &mut out), Ok(28));
+/// assert_eq!(out[..8], [5, 2, 8, 247, 9, 0, 0, 1]);
 /// ```
-pub fn write(header: Header, body: &[u8], room: &mut [u8]) -> Result<usize, Refusal> {
-    let bytes = [header.message, header.rate, header.count, header.version];
-    call::write(Format::Mgl.number(), bytes, body, room)
+pub fn write(header: Header, body: &[u8], out: &mut [u8]) -> Result<usize, Refusal> {
+    let bytes = [header.message_type, header.rate, header.count, header.version];
+    call::write(Format::Mgl.number(), bytes, body, out)
 }

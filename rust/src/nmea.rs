@@ -1,10 +1,10 @@
 //! Format 3, NMEA with the LARUS sentences: RMC and PLARS, and the writers.
 //!
-//! Each reading takes one whole sentence, and refuses with [`Refusal::NotOneFrame`], [`Refusal::OtherMessage`] and
-//! [`Refusal::OutOfForm`], in this order.
+//! Each field function takes one whole sentence. It refuses with [`Refusal::NotOneFrame`], [`Refusal::OtherMessage`]
+//! and [`Refusal::OutOfForm`], in this order.
 
 use crate::call;
-use crate::ffi::reading;
+use crate::ffi::function;
 use crate::row::misfit;
 use crate::{Clock, Format, Refusal};
 
@@ -65,7 +65,7 @@ pub struct Setting {
 /// assert_eq!(blossomaxle::nmea::body(b"$PLARB,12.33*4C\r\n"), Ok(&b"PLARB,12.33"[..]));
 /// ```
 pub fn body(frame: &[u8]) -> Result<&[u8], Refusal> {
-    call::part(reading::NMEA_BODY, frame)
+    call::part(function::NMEA_BODY, frame)
 }
 
 /// The clock of an RMC sentence.
@@ -77,7 +77,7 @@ pub fn body(frame: &[u8]) -> Result<&[u8], Refusal> {
 /// assert_eq!(nmea::rmc_clock(frame), Ok(Clock::Good(1_687_009_783)));
 /// ```
 pub fn rmc_clock(frame: &[u8]) -> Result<Clock, Refusal> {
-    call::read(reading::RMC_CLOCK, frame).map(Clock::from_row)
+    call::read(function::RMC_CLOCK, frame).map(Clock::from_row)
 }
 
 /// The position of an RMC sentence.
@@ -90,7 +90,7 @@ pub fn rmc_clock(frame: &[u8]) -> Result<Clock, Refusal> {
 /// assert_eq!(position, nmea::Position { latitude: 290_957_602, longitude: 62_679_034 });
 /// ```
 pub fn rmc_position(frame: &[u8]) -> Result<Position, Refusal> {
-    let mut row = call::read(reading::RMC_POSITION, frame)?;
+    let mut row = call::read(function::RMC_POSITION, frame)?;
     Ok(Position { latitude: row.next(), longitude: row.next() })
 }
 
@@ -103,7 +103,7 @@ pub fn rmc_position(frame: &[u8]) -> Result<Position, Refusal> {
 /// assert_eq!(nmea::rmc_status(frame), Ok(nmea::Status::Valid));
 /// ```
 pub fn rmc_status(frame: &[u8]) -> Result<Status, Refusal> {
-    let letter = call::read(reading::RMC_STATUS, frame)?.next();
+    let letter = call::read(function::RMC_STATUS, frame)?.next();
     Ok(named([Status::Valid, Status::Warning], |status| status as i64, letter))
 }
 
@@ -116,7 +116,7 @@ pub fn rmc_status(frame: &[u8]) -> Result<Status, Refusal> {
 /// assert_eq!(setting, Setting { source: Source::Host, parameter: Parameter::Qnh, value: 10_314 });
 /// ```
 pub fn setting(frame: &[u8]) -> Result<Setting, Refusal> {
-    let mut row = call::read(reading::PLARS_SETTING, frame)?;
+    let mut row = call::read(function::PLARS_SETTING, frame)?;
     let parameters = [Parameter::MacCready, Parameter::Ballast, Parameter::Bugs, Parameter::Qnh];
     Ok(Setting {
         source: named([Source::Larus, Source::Host], |source| source as i64, row.next()),
@@ -130,37 +130,37 @@ fn named<T: Copy, const N: usize>(cases: [T; N], number_of: fn(T) -> i64, number
     cases.into_iter().find(|case| number_of(*case) == number).unwrap_or_else(|| misfit(number))
 }
 
-/// Writes a sentence at the start of the room, and says how long it is: 6 bytes more than the body.
+/// Writes a sentence at the start of the output, and says how long it is: 6 bytes more than the body.
 ///
-/// A body that is not 1 to 76 permitted bytes is [`Refusal::NotWritable`]; a room that is too small is then
-/// [`Refusal::FrameTooLong`].
+/// A body that is not 1 to 76 permitted bytes is [`Refusal::NotWritable`]; an output that is too small is then
+/// [`Refusal::OutputTooSmall`].
 ///
 /// ```
 /// use blossomaxle::{nmea, Refusal};
 ///
-/// let mut room = [0; 82];
-/// let length = nmea::write(b"PLARB,12.33", &mut room).unwrap();
-/// assert_eq!(&room[..length], b"$PLARB,12.33*4C\r\n");
-/// assert_eq!(nmea::write(b"a*b", &mut room), Err(Refusal::NotWritable));
-/// assert_eq!(nmea::write(b"a", &mut room[..6]), Err(Refusal::FrameTooLong));
+/// let mut out = [0; 82];
+/// let length = nmea::write(b"PLARB,12.33", &mut out).unwrap();
+/// assert_eq!(&out[..length], b"$PLARB,12.33*4C\r\n");
+/// assert_eq!(nmea::write(b"a*b", &mut out), Err(Refusal::NotWritable));
+/// assert_eq!(nmea::write(b"a", &mut out[..6]), Err(Refusal::OutputTooSmall));
 /// ```
-pub fn write(body: &[u8], room: &mut [u8]) -> Result<usize, Refusal> {
-    call::write(Format::Nmea.number(), [0; 4], body, room)
+pub fn write(body: &[u8], out: &mut [u8]) -> Result<usize, Refusal> {
+    call::write(Format::Nmea.number(), [0; 4], body, out)
 }
 
-/// Writes a PLARS sentence at the start of the room, and says how long it is.
+/// Writes a PLARS sentence at the start of the output, and says how long it is.
 ///
-/// A value out of its parameter's range is [`Refusal::OutOfForm`]; a room that is too small is then
-/// [`Refusal::FrameTooLong`].
+/// A value out of its parameter's range is [`Refusal::OutOfForm`]; an output that is too small is then
+/// [`Refusal::OutputTooSmall`].
 ///
 /// ```
 /// use blossomaxle::nmea::{self, Parameter, Setting, Source};
 ///
-/// let mut room = [0; 82];
+/// let mut out = [0; 82];
 /// let setting = Setting { source: Source::Larus, parameter: Parameter::MacCready, value: 13 };
-/// let length = nmea::write_setting(setting, &mut room).unwrap();
-/// assert_eq!(&room[..length], b"$PLARS,L,MC,1.3*1E\r\n");
+/// let length = nmea::write_setting(setting, &mut out).unwrap();
+/// assert_eq!(&out[..length], b"$PLARS,L,MC,1.3*1E\r\n");
 /// ```
-pub fn write_setting(setting: Setting, room: &mut [u8]) -> Result<usize, Refusal> {
-    call::write_setting(setting.source as u8, setting.parameter as u8, setting.value, room)
+pub fn write_setting(setting: Setting, out: &mut [u8]) -> Result<usize, Refusal> {
+    call::write_setting(setting.source as u8, setting.parameter as u8, setting.value, out)
 }

@@ -1,9 +1,10 @@
 //! Format 2, the OnFlight log, version 1: the fields of a frame, and the writer.
 //!
-//! Each reading takes one whole frame; anything else is [`Refusal::NotOneFrame`]. Only [`fix`] has another refusal.
+//! Each field function takes one whole frame; anything else is [`Refusal::NotOneFrame`]. Only [`fix`] has another
+//! refusal.
 
 use crate::call;
-use crate::ffi::{ratio, reading};
+use crate::ffi::{function, ratio};
 use crate::{Clock, Format, Refusal};
 
 /// Both voltages, 25 a volt.
@@ -54,7 +55,7 @@ pub struct Position {
 /// assert_eq!(onflight::body(&frame), Ok(&[7; 152][..]));
 /// ```
 pub fn body(frame: &[u8]) -> Result<&[u8], Refusal> {
-    call::part(reading::ONFLIGHT_BODY, frame)
+    call::part(function::ONFLIGHT_BODY, frame)
 }
 
 /// The six status bytes.
@@ -67,7 +68,7 @@ pub fn body(frame: &[u8]) -> Result<&[u8], Refusal> {
 /// assert_eq!(onflight::status(&frame), Ok([7; 6]));
 /// ```
 pub fn status(frame: &[u8]) -> Result<[u8; 6], Refusal> {
-    let mut row = call::read(reading::ONFLIGHT_STATUS, frame)?;
+    let mut row = call::read(function::ONFLIGHT_STATUS, frame)?;
     Ok(std::array::from_fn(|_| row.next()))
 }
 
@@ -81,7 +82,7 @@ pub fn status(frame: &[u8]) -> Result<[u8; 6], Refusal> {
 /// assert_eq!(onflight::set_bits(&frame), Ok(42));
 /// ```
 pub fn set_bits(frame: &[u8]) -> Result<u32, Refusal> {
-    Ok(call::read(reading::ONFLIGHT_SET_BITS, frame)?.next())
+    Ok(call::read(function::ONFLIGHT_SET_BITS, frame)?.next())
 }
 
 /// Milliseconds since boot; they roll over.
@@ -94,7 +95,7 @@ pub fn set_bits(frame: &[u8]) -> Result<u32, Refusal> {
 /// assert_eq!(onflight::boot_time(&frame), Ok(0x0101_0101));
 /// ```
 pub fn boot_time(frame: &[u8]) -> Result<u32, Refusal> {
-    Ok(call::read(reading::ONFLIGHT_BOOT_TIME, frame)?.next())
+    Ok(call::read(function::ONFLIGHT_BOOT_TIME, frame)?.next())
 }
 
 /// Milliseconds from one frame to another, over a roll-over of the time since boot too.
@@ -125,7 +126,7 @@ pub fn elapsed(from: &[u8], to: &[u8]) -> Result<u32, Refusal> {
 /// assert_eq!(onflight::clock(&frame), Ok(Clock::Wrong(Field::Day)));
 /// ```
 pub fn clock(frame: &[u8]) -> Result<Clock, Refusal> {
-    call::read(reading::ONFLIGHT_CLOCK, frame).map(Clock::from_row)
+    call::read(function::ONFLIGHT_CLOCK, frame).map(Clock::from_row)
 }
 
 /// Input voltage and filtered input voltage, as they stand in the frame.
@@ -138,7 +139,7 @@ pub fn clock(frame: &[u8]) -> Result<Clock, Refusal> {
 /// assert_eq!(onflight::voltages(&frame), Ok(onflight::Voltages { input: 250, filtered: 250 }));
 /// ```
 pub fn voltages(frame: &[u8]) -> Result<Voltages, Refusal> {
-    let mut row = call::read(reading::ONFLIGHT_VOLTAGES, frame)?;
+    let mut row = call::read(function::ONFLIGHT_VOLTAGES, frame)?;
     Ok(Voltages { input: row.next(), filtered: row.next() })
 }
 
@@ -180,7 +181,7 @@ pub fn load_factor(frame: &[u8]) -> Result<f64, Refusal> {
 /// assert_eq!(onflight::accelerations(&frame), Ok(onflight::Axes { x: -1, y: -1, z: -1 }));
 /// ```
 pub fn accelerations(frame: &[u8]) -> Result<Axes, Refusal> {
-    axes(reading::ONFLIGHT_ACCELERATIONS, frame)
+    axes(function::ONFLIGHT_ACCELERATIONS, frame)
 }
 
 /// IMU gyros, 10 a degree a second.
@@ -193,11 +194,11 @@ pub fn accelerations(frame: &[u8]) -> Result<Axes, Refusal> {
 /// assert_eq!(onflight::gyros(&frame), Ok(onflight::Axes { x: 257, y: 257, z: 257 }));
 /// ```
 pub fn gyros(frame: &[u8]) -> Result<Axes, Refusal> {
-    axes(reading::ONFLIGHT_GYROS, frame)
+    axes(function::ONFLIGHT_GYROS, frame)
 }
 
-fn axes(reading: u32, frame: &[u8]) -> Result<Axes, Refusal> {
-    let mut row = call::read(reading, frame)?;
+fn axes(function: u32, frame: &[u8]) -> Result<Axes, Refusal> {
+    let mut row = call::read(function, frame)?;
     Ok(Axes { x: row.next(), y: row.next(), z: row.next() })
 }
 
@@ -211,7 +212,7 @@ fn axes(reading: u32, frame: &[u8]) -> Result<Axes, Refusal> {
 /// assert_eq!(onflight::pressure(&frame), Ok(131_070));
 /// ```
 pub fn pressure(frame: &[u8]) -> Result<u32, Refusal> {
-    Ok(call::read(reading::ONFLIGHT_PRESSURE, frame)?.next())
+    Ok(call::read(function::ONFLIGHT_PRESSURE, frame)?.next())
 }
 
 /// The fix and its satellites; a fix of 1, 5, 6 or 7 is [`Refusal::OutOfForm`].
@@ -229,7 +230,7 @@ pub fn pressure(frame: &[u8]) -> Result<u32, Refusal> {
 /// assert_eq!(onflight::fix(&frame), Err(Refusal::OutOfForm));
 /// ```
 pub fn fix(frame: &[u8]) -> Result<Fix, Refusal> {
-    let mut row = call::read(reading::ONFLIGHT_FIX, frame)?;
+    let mut row = call::read(function::ONFLIGHT_FIX, frame)?;
     Ok(Fix { fix: row.next(), satellites: row.next() })
 }
 
@@ -243,7 +244,7 @@ pub fn fix(frame: &[u8]) -> Result<Fix, Refusal> {
 /// assert_eq!(onflight::gnss_position(&frame), Ok(onflight::Position { latitude: -1, longitude: -1 }));
 /// ```
 pub fn gnss_position(frame: &[u8]) -> Result<Position, Refusal> {
-    position(reading::ONFLIGHT_GNSS_POSITION, frame)
+    position(function::ONFLIGHT_GNSS_POSITION, frame)
 }
 
 /// The position of the inertial system.
@@ -256,11 +257,11 @@ pub fn gnss_position(frame: &[u8]) -> Result<Position, Refusal> {
 /// assert_eq!(onflight::ins_position(&frame), Ok(onflight::Position { latitude: 0, longitude: 0 }));
 /// ```
 pub fn ins_position(frame: &[u8]) -> Result<Position, Refusal> {
-    position(reading::ONFLIGHT_INS_POSITION, frame)
+    position(function::ONFLIGHT_INS_POSITION, frame)
 }
 
-fn position(reading: u32, frame: &[u8]) -> Result<Position, Refusal> {
-    let mut row = call::read(reading, frame)?;
+fn position(function: u32, frame: &[u8]) -> Result<Position, Refusal> {
+    let mut row = call::read(function, frame)?;
     Ok(Position { latitude: row.next(), longitude: row.next() })
 }
 
@@ -274,7 +275,7 @@ fn position(reading: u32, frame: &[u8]) -> Result<Position, Refusal> {
 /// assert_eq!(onflight::gnss_altitude(&frame), Ok(-10_000));
 /// ```
 pub fn gnss_altitude(frame: &[u8]) -> Result<i32, Refusal> {
-    Ok(call::read(reading::ONFLIGHT_GNSS_ALTITUDE, frame)?.next())
+    Ok(call::read(function::ONFLIGHT_GNSS_ALTITUDE, frame)?.next())
 }
 
 /// The altitude of the inertial system, in feet above the WGS84 ellipsoid.
@@ -287,23 +288,23 @@ pub fn gnss_altitude(frame: &[u8]) -> Result<i32, Refusal> {
 /// assert_eq!(onflight::ins_altitude(&frame), Ok(55_535));
 /// ```
 pub fn ins_altitude(frame: &[u8]) -> Result<i32, Refusal> {
-    Ok(call::read(reading::ONFLIGHT_INS_ALTITUDE, frame)?.next())
+    Ok(call::read(function::ONFLIGHT_INS_ALTITUDE, frame)?.next())
 }
 
-/// Writes a frame of 158 bytes at the start of the room, and says so.
+/// Writes a frame of 158 bytes at the start of the output, and says so.
 ///
-/// A payload that is not 152 bytes is [`Refusal::NotWritable`]; a room that is too small is then
-/// [`Refusal::FrameTooLong`].
+/// A payload that is not 152 bytes is [`Refusal::NotWritable`]; an output that is too small is then
+/// [`Refusal::OutputTooSmall`].
 ///
 /// ```
 /// use blossomaxle::{onflight, Refusal};
 ///
 /// let mut frame = [0; 158];
 /// assert_eq!(onflight::write(&[0; 151], &mut frame), Err(Refusal::NotWritable));
-/// assert_eq!(onflight::write(&[0; 152], &mut frame[1..]), Err(Refusal::FrameTooLong));
+/// assert_eq!(onflight::write(&[0; 152], &mut frame[1..]), Err(Refusal::OutputTooSmall));
 /// assert_eq!(onflight::write(&[0; 152], &mut frame), Ok(158));
 /// assert_eq!(frame[..4], *b"BF\x01\x98");
 /// ```
-pub fn write(payload: &[u8], room: &mut [u8]) -> Result<usize, Refusal> {
-    call::write(Format::OnFlight.number(), [0; 4], payload, room)
+pub fn write(payload: &[u8], out: &mut [u8]) -> Result<usize, Refusal> {
+    call::write(Format::OnFlight.number(), [0; 4], payload, out)
 }

@@ -4,14 +4,17 @@ use crate::call;
 use crate::{Format, Refusal};
 use std::fmt;
 
-/// The bytes of a reader.
-pub const READER_LEN: usize = 295;
+/// How many bytes a reader holds: as many as can be pending in any format.
+const HELD: usize = 275;
+
+/// The bytes of a reader: five words of four bytes, and those that it holds.
+pub const READER_LEN: usize = 20 + HELD;
 
 /// The longest piece.
 pub const LONGEST_PIECE: usize = 4096;
 
-/// A room that takes the frames of every piece: a piece, and what can be pending.
-pub const ROOM: usize = 4371;
+/// The length of an output that takes the frames of every piece: a piece, and what can be pending.
+pub const MAX_OUTPUT: usize = HELD + LONGEST_PIECE;
 
 /// A reader of a line.
 ///
@@ -19,17 +22,17 @@ pub const ROOM: usize = 4371;
 /// divided into pieces does not matter.
 ///
 /// ```
-/// use blossomaxle::{Format, Reader, ROOM};
+/// use blossomaxle::{Format, Reader, MAX_OUTPUT};
 ///
 /// # fn main() -> Result<(), blossomaxle::Refusal> {
 /// let mut reader = Reader::fresh(Format::Nmea)?;
-/// let mut room = [0; ROOM];
-/// assert_eq!(reader.piece(b"x$$PLARB,12", &mut room)?, 0);
-/// let handed = reader.piece(b".33*4C\r\n", &mut room)?;
-/// assert_eq!(&room[..handed], b"$PLARB,12.33*4C\r\n");
-/// reader.close(&mut room)?;
-/// let numbers = reader.numbers();
-/// assert_eq!((numbers.framed, numbers.skipped, numbers.pending), (17, 2, 0));
+/// let mut out = [0; MAX_OUTPUT];
+/// assert_eq!(reader.piece(b"x$$PLARB,12", &mut out)?, 0);
+/// let handed = reader.piece(b".33*4C\r\n", &mut out)?;
+/// assert_eq!(&out[..handed], b"$PLARB,12.33*4C\r\n");
+/// reader.close(&mut out)?;
+/// let counts = reader.counts();
+/// assert_eq!((counts.framed, counts.skipped, counts.pending), (17, 2, 0));
 /// # Ok(())
 /// # }
 /// ```
@@ -44,7 +47,7 @@ pub struct Reader {
 
 /// How many bytes of a line are framed, skipped and pending; together they are all bytes so far.
 #[derive(Clone, Copy, Debug, PartialEq, Eq, Hash)]
-pub struct Numbers {
+pub struct Counts {
     /// The lengths of the frames handed out, added up.
     pub framed: u32,
     /// Bytes that no frame begins with and no frame has.
@@ -69,74 +72,74 @@ impl Reader {
         call::fresh(format.into(), &mut bytes).map(|()| Reader { bytes })
     }
 
-    /// Reads a piece. Its frames are laid back to back from the start of the room; the answer says how many bytes they
-    /// have. The later room is unchanged, and all of it where the piece is refused.
+    /// Reads a piece. Its frames are copied back to back to the start of the output; the answer says how many bytes
+    /// they have. The later bytes of the output are unchanged, and all of them where the piece is refused.
     ///
     /// Refusals, in this order: [`BrokenReader`](Refusal::BrokenReader), [`Closed`](Refusal::Closed),
     /// [`PieceTooLong`](Refusal::PieceTooLong), [`LineTooLong`](Refusal::LineTooLong) and
-    /// [`RoomTooSmall`](Refusal::RoomTooSmall). A room of [`ROOM`] bytes is never too small.
+    /// [`PieceOutputTooSmall`](Refusal::PieceOutputTooSmall). An output of [`MAX_OUTPUT`] bytes is never too small.
     ///
     /// ```
-    /// use blossomaxle::{Format, Reader, Refusal, ROOM};
+    /// use blossomaxle::{Format, Reader, Refusal, MAX_OUTPUT};
     ///
     /// # fn main() -> Result<(), Refusal> {
     /// let mut reader = Reader::fresh(Format::Nmea)?;
-    /// assert_eq!(reader.piece(b"$A*41\r\n", &mut [0; 6]), Err(Refusal::RoomTooSmall));
-    /// assert_eq!(reader.piece(&[0; 4097], &mut [0; ROOM]), Err(Refusal::PieceTooLong));
+    /// assert_eq!(reader.piece(b"$A*41\r\n", &mut [0; 6]), Err(Refusal::PieceOutputTooSmall));
+    /// assert_eq!(reader.piece(&[0; 4097], &mut [0; MAX_OUTPUT]), Err(Refusal::PieceTooLong));
     /// assert_eq!(reader.piece(b"$A*41\r\n", &mut [0; 7]), Ok(7));
     /// # Ok(())
     /// # }
     /// ```
-    pub fn piece(&mut self, piece: &[u8], room: &mut [u8]) -> Result<usize, Refusal> {
-        self.grown(|bytes| call::piece(bytes, piece, room))
+    pub fn piece(&mut self, piece: &[u8], out: &mut [u8]) -> Result<usize, Refusal> {
+        self.grown(|bytes| call::piece(bytes, piece, out))
     }
 
-    /// Ends the line. Frames that stood inside a longer one that did not come to its end are laid in the room as by a
-    /// piece; all other pending bytes become skipped.
+    /// Ends the line. Frames that stood inside a longer one that did not come to its end are copied to the output as by
+    /// a piece; all other pending bytes become skipped.
     ///
     /// Refusals, in this order: [`BrokenReader`](Refusal::BrokenReader), [`Closed`](Refusal::Closed) and
-    /// [`RoomTooSmall`](Refusal::RoomTooSmall).
+    /// [`PieceOutputTooSmall`](Refusal::PieceOutputTooSmall).
     ///
     /// ```
-    /// use blossomaxle::{Format, Reader, Refusal, ROOM};
+    /// use blossomaxle::{Format, Reader, Refusal, MAX_OUTPUT};
     ///
     /// # fn main() -> Result<(), Refusal> {
     /// let mut reader = Reader::fresh(Format::Nmea)?;
-    /// let mut room = [0; ROOM];
-    /// reader.piece(b"$cut", &mut room)?;
-    /// assert_eq!(reader.numbers().pending, 4);
-    /// assert_eq!(reader.close(&mut room)?, 0);
-    /// assert_eq!(reader.numbers().skipped, 4);
-    /// assert_eq!(reader.close(&mut room), Err(Refusal::Closed));
+    /// let mut out = [0; MAX_OUTPUT];
+    /// reader.piece(b"$cut", &mut out)?;
+    /// assert_eq!(reader.counts().pending, 4);
+    /// assert_eq!(reader.close(&mut out)?, 0);
+    /// assert_eq!(reader.counts().skipped, 4);
+    /// assert_eq!(reader.close(&mut out), Err(Refusal::Closed));
     /// # Ok(())
     /// # }
     /// ```
-    pub fn close(&mut self, room: &mut [u8]) -> Result<usize, Refusal> {
-        self.grown(|bytes| call::close(bytes, room))
+    pub fn close(&mut self, out: &mut [u8]) -> Result<usize, Refusal> {
+        self.grown(|bytes| call::close(bytes, out))
     }
 
     /// Makes a call, and says by how much framed grew.
     fn grown(&mut self, call: impl FnOnce(&mut [u8]) -> Result<(), Refusal>) -> Result<usize, Refusal> {
-        let before = self.numbers().framed;
+        let before = self.counts().framed;
         call(&mut self.bytes)?;
-        Ok((self.numbers().framed - before) as usize)
+        Ok((self.counts().framed - before) as usize)
     }
 
     /// How many bytes are framed, skipped and pending.
     ///
     /// ```
-    /// use blossomaxle::{Format, Reader, ROOM};
+    /// use blossomaxle::{Format, Reader, MAX_OUTPUT};
     ///
     /// # fn main() -> Result<(), blossomaxle::Refusal> {
     /// let mut reader = Reader::fresh(Format::Mgl)?;
-    /// reader.piece(&[5, 5, 2], &mut [0; ROOM])?;
-    /// let numbers = reader.numbers();
-    /// assert_eq!((numbers.framed, numbers.skipped, numbers.pending), (0, 1, 2));
+    /// reader.piece(&[5, 5, 2], &mut [0; MAX_OUTPUT])?;
+    /// let counts = reader.counts();
+    /// assert_eq!((counts.framed, counts.skipped, counts.pending), (0, 1, 2));
     /// # Ok(())
     /// # }
     /// ```
-    pub fn numbers(&self) -> Numbers {
-        Numbers { framed: self.word(2), skipped: self.word(3), pending: self.word(4) }
+    pub fn counts(&self) -> Counts {
+        Counts { framed: self.word(2), skipped: self.word(3), pending: self.word(4) }
     }
 
     /// The format, or `None` in a reader from stored bytes that name none.
@@ -173,14 +176,14 @@ impl Reader {
     /// The reader's bytes, to be stored.
     ///
     /// ```
-    /// use blossomaxle::{Format, Reader, ROOM};
+    /// use blossomaxle::{Format, Reader, MAX_OUTPUT};
     ///
     /// # fn main() -> Result<(), blossomaxle::Refusal> {
     /// let mut reader = Reader::fresh(Format::Nmea)?;
-    /// reader.piece(b"$A*4", &mut [0; ROOM])?;
+    /// reader.piece(b"$A*4", &mut [0; MAX_OUTPUT])?;
     /// let stored = reader.as_bytes().to_vec();
     /// let mut later = Reader::from_bytes(&stored)?;
-    /// assert_eq!(later.piece(b"1\r\n", &mut [0; ROOM]), Ok(7));
+    /// assert_eq!(later.piece(b"1\r\n", &mut [0; MAX_OUTPUT]), Ok(7));
     /// # Ok(())
     /// # }
     /// ```
@@ -190,7 +193,7 @@ impl Reader {
 
     /// A reader from stored bytes, [`READER_LEN`] of them or [`Refusal::BrokenReader`].
     ///
-    /// Any bytes may be given: each call judges them, and refuses what no line can have.
+    /// Any bytes may be given: each call judges them, and refuses a broken one with 11.
     ///
     /// ```
     /// use blossomaxle::{Reader, Refusal, READER_LEN};
@@ -215,7 +218,7 @@ impl fmt::Debug for Reader {
         f.debug_struct("Reader")
             .field("format", &self.word(0))
             .field("closed", &self.is_closed())
-            .field("numbers", &self.numbers())
+            .field("counts", &self.counts())
             .finish_non_exhaustive()
     }
 }

@@ -21,21 +21,22 @@ pub enum Refusal {
     Closed,
     /// 3: framed, skipped, pending and the piece's length are together over 4,294,967,295.
     LineTooLong,
-    /// 4: the room is smaller than pending plus the piece.
-    RoomTooSmall,
-    /// 5: content that no frame of the format can carry.
+    /// 4: the output is smaller than pending plus the piece.
+    PieceOutputTooSmall,
+    /// 5: a body or payload that the writer of the format does not take.
     NotWritable,
-    /// 6: the writer's room is smaller than the frame.
-    FrameTooLong,
+    /// 6: the writer's output is smaller than the frame.
+    OutputTooSmall,
     /// 7: the bytes are not one whole frame of the format.
     NotOneFrame,
     /// 8: a frame, but of another message, version or size than the one asked for.
     OtherMessage,
     /// 9: a field outside its form or range, or an item past the last.
     OutOfForm,
-    /// 10: the contents of a bench file are broken.
-    BrokenContents,
-    /// 11: a reader that no line can have, or a fresh reader of an unknown format.
+    /// 10: the table of contents of a bench file is broken.
+    BrokenToc,
+    /// 11: a reader with an unknown format, or whose pending bytes or counts cannot be, or a fresh reader of an unknown
+    /// format.
     BrokenReader,
     /// A number that this crate does not know: the library is newer than the crate.
     Other(u32),
@@ -46,13 +47,13 @@ const KNOWN: [(Refusal, &str); 11] = [
     (Refusal::PieceTooLong, "the piece is longer than 4,096 bytes"),
     (Refusal::Closed, "the reader is closed"),
     (Refusal::LineTooLong, "the line would be longer than 4,294,967,295 bytes"),
-    (Refusal::RoomTooSmall, "the room is smaller than pending plus the piece"),
-    (Refusal::NotWritable, "no frame of the format can carry this content"),
-    (Refusal::FrameTooLong, "the room is smaller than the frame"),
+    (Refusal::PieceOutputTooSmall, "the output is smaller than pending plus the piece"),
+    (Refusal::NotWritable, "the writer of the format does not take this content"),
+    (Refusal::OutputTooSmall, "the output is smaller than the frame"),
     (Refusal::NotOneFrame, "the bytes are not one whole frame of the format"),
     (Refusal::OtherMessage, "the frame is of another message, version or size"),
     (Refusal::OutOfForm, "a field is outside its form or range, or there is no such item"),
-    (Refusal::BrokenContents, "the contents of the bench file are broken"),
+    (Refusal::BrokenToc, "the table of contents of the bench file is broken"),
     (Refusal::BrokenReader, "the reader is broken, or its format unknown"),
 ];
 
@@ -68,13 +69,13 @@ impl Refusal {
             Refusal::PieceTooLong => 1,
             Refusal::Closed => 2,
             Refusal::LineTooLong => 3,
-            Refusal::RoomTooSmall => 4,
+            Refusal::PieceOutputTooSmall => 4,
             Refusal::NotWritable => 5,
-            Refusal::FrameTooLong => 6,
+            Refusal::OutputTooSmall => 6,
             Refusal::NotOneFrame => 7,
             Refusal::OtherMessage => 8,
             Refusal::OutOfForm => 9,
-            Refusal::BrokenContents => 10,
+            Refusal::BrokenToc => 10,
             Refusal::BrokenReader => 11,
             Refusal::Other(number) => number,
         }

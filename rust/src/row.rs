@@ -18,7 +18,7 @@ impl Row {
     /// The next value. The library promises that it fits; where it does not, the library is not the one that this
     /// crate was written for, and nothing it says can be used.
     pub fn next<T: TryFrom<i64>>(&mut self) -> T {
-        let value = *self.values.get(self.taken).expect("no reading has more values than an answer has room for");
+        let value = *self.values.get(self.taken).expect("no field function has more values than an answer holds");
         self.taken += 1;
         T::try_from(value).unwrap_or_else(|_| misfit(value))
     }
@@ -31,5 +31,5 @@ impl Row {
 
 /// Stops the program: the library answered what it never answers.
 pub fn misfit(value: i64) -> ! {
-    panic!("libcapi.a answered {value} in a place where it cannot stand: the archive does not belong to this crate")
+    panic!("libcapture.a answered {value} in a place where it cannot stand: the archive does not belong to this crate")
 }

@@ -4,36 +4,33 @@
 mod oracle;
 
 use blossomaxle::nmea::{Parameter, Setting, Source};
-use blossomaxle::{bench, mgl, nmea, onflight, Clock, Field, Format, Reader, Refusal, ROOM};
+use blossomaxle::{bench, mgl, nmea, onflight, Clock, Field, Format, Reader, Refusal, MAX_OUTPUT};
 use oracle::reading::{closing, reading};
 use oracle::{checksum, frame};
 
 /// Framed, skipped and pending after one piece, which are the same for library and oracle.
 fn after_piece(format: Format, bytes: &[u8]) -> (u32, u32, u32) {
     let mut reader = Reader::fresh(format).unwrap();
-    let mut room = [0; ROOM];
-    let handed = reader.piece(bytes, &mut room).unwrap();
+    let mut out = [0; MAX_OUTPUT];
+    let handed = reader.piece(bytes, &mut out).unwrap();
     let found = reading(format.number(), bytes);
-    assert_eq!(room[..handed], found.frames);
-    let numbers = reader.numbers();
-    let numbers = (numbers.framed, numbers.skipped, numbers.pending);
-    assert_eq!(numbers, (found.frames.len() as u32, found.skipped as u32, found.pending as u32));
-    numbers
+    assert_eq!(out[..handed], found.frames);
+    let counts = reader.counts();
+    let counts = (counts.framed, counts.skipped, counts.pending);
+    assert_eq!(counts, (found.frames.len() as u32, found.skipped as u32, found.pending as u32));
+    counts
 }
 
 /// Framed and skipped after one piece and a close, which are the same for library and oracle.
 fn after_close(format: Format, bytes: &[u8]) -> (u32, u32) {
     let mut reader = Reader::fresh(format).unwrap();
-    let mut room = [0; ROOM];
-    reader.piece(bytes, &mut room).unwrap();
-    reader.close(&mut room).unwrap();
+    let mut out = [0; MAX_OUTPUT];
+    reader.piece(bytes, &mut out).unwrap();
+    reader.close(&mut out).unwrap();
     let found = closing(format.number(), bytes);
-    let numbers = reader.numbers();
-    assert_eq!(
-        (numbers.framed, numbers.skipped, numbers.pending),
-        (found.frames.len() as u32, found.skipped as u32, 0)
-    );
-    (numbers.framed, numbers.skipped)
+    let counts = reader.counts();
+    assert_eq!((counts.framed, counts.skipped, counts.pending), (found.frames.len() as u32, found.skipped as u32, 0));
+    (counts.framed, counts.skipped)
 }
 
 /// A start wants so many bytes: it is pending with one fewer, and decided with all of them.
@@ -86,7 +83,7 @@ fn mgl_clock([year, month, day, hour, minute, second]: [u8; 6]) -> Clock {
     let mut body = [0; 32];
     body[24..30].copy_from_slice(&[hour, minute, second, day, month, year]);
     let mut frame = [0; 44];
-    mgl::write(mgl::Header { message: 1, rate: 0, count: 0, version: 1 }, &body, &mut frame).unwrap();
+    mgl::write(mgl::Header { message_type: 1, rate: 0, count: 0, version: 1 }, &body, &mut frame).unwrap();
     mgl::clock(&frame).unwrap()
 }
 
@@ -115,9 +112,9 @@ fn case_h_to_j_clocks() {
 
 #[test]
 fn case_k_and_the_sheet() {
-    let mut room = [0; 82];
-    let length = nmea::write(b"PLARB,12.33", &mut room).unwrap();
-    assert_eq!(&room[..length], b"$PLARB,12.33*4C\r\n");
+    let mut out = [0; 82];
+    let length = nmea::write(b"PLARB,12.33", &mut out).unwrap();
+    assert_eq!(&out[..length], b"$PLARB,12.33*4C\r\n");
     assert_eq!(after_close(Format::Nmea, b"x$$PLARB,12.33*4C\r\n"), (17, 2));
 }
 
@@ -139,14 +136,14 @@ fn a_frame_inside_a_broken_longer_one() {
 #[ignore = "reads four gigabytes"]
 fn the_longest_line() {
     let mut reader = Reader::fresh(Format::OnFlight).unwrap();
-    let (zeros, mut room) = ([0; 4096], [0; ROOM]);
+    let (zeros, mut out) = ([0; 4096], [0; MAX_OUTPUT]);
     for _ in 0..u32::MAX / 4096 {
-        reader.piece(&zeros, &mut room).unwrap();
+        reader.piece(&zeros, &mut out).unwrap();
     }
-    assert_eq!(reader.piece(&zeros, &mut room), Err(Refusal::LineTooLong));
-    assert_eq!(reader.piece(&zeros[..4095], &mut room), Ok(0));
-    assert_eq!(reader.numbers().skipped, u32::MAX);
-    assert_eq!(reader.piece(&zeros[..1], &mut room), Err(Refusal::LineTooLong));
+    assert_eq!(reader.piece(&zeros, &mut out), Err(Refusal::LineTooLong));
+    assert_eq!(reader.piece(&zeros[..4095], &mut out), Ok(0));
+    assert_eq!(reader.counts().skipped, u32::MAX);
+    assert_eq!(reader.piece(&zeros[..1], &mut out), Err(Refusal::LineTooLong));
     assert_eq!(reader.piece(&[], &mut []), Ok(0));
     assert_eq!(reader.close(&mut []), Ok(0));
 }
@@ -225,9 +222,9 @@ fn the_shortest_bench_file() {
     let file = [1, 3, 2, 0, 0, 0, 0];
     let entries: Vec<bench::Entry> = bench::entries(&file, 7).unwrap().collect();
     assert_eq!(entries, [bench::Entry { format: Format::Nmea, port: 2, length: 0, start: 7 }]);
-    assert_eq!(bench::count(&[], 0), Err(Refusal::BrokenContents));
-    assert_eq!(bench::count(&file[..6], 7), Err(Refusal::BrokenContents));
-    assert_eq!(bench::count(&file, 6), Err(Refusal::BrokenContents));
+    assert_eq!(bench::count(&[], 0), Err(Refusal::BrokenToc));
+    assert_eq!(bench::count(&file[..6], 7), Err(Refusal::BrokenToc));
+    assert_eq!(bench::count(&file, 6), Err(Refusal::BrokenToc));
     assert_eq!(bench::count(&[1, 3, 2, 0, 0, 0, 0, 255], 7), Ok(1));
 }
 

@@ -1,3 +1,3 @@
--- Laws of the contents of a bench file, and of the text of a sheet. Assumes nothing.
-pub mod ContentsLaws
+-- Laws of the table of contents of a bench file, and of the text of a sheet. Assumes nothing.
+pub mod TocLaws
 pub mod SheetLaws

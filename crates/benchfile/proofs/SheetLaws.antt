@@ -1,21 +1,21 @@
--- Laws of the text of a sheet: how long it is, and that it is laid line by line, and a line part by part.
+-- Laws of the text of a sheet: how long it is, and that it is put line by line, and a line part by part.
 -- Assumes nothing.
 use Prim.Native.Nat.{ℕ, _+_, _^_, _≤_, _<_}
 use mathlib.Core.Path.{_≡_, refl, sym, _∙_}
 use mathlib.Core.List.{List, [], _∷_, _++_, append-assoc}
 use native.Mathlib.Omega.{arith}
 use lib.ListN.{length, length-append, take}
-use Rattle.room.specs.Room.{copied}
-use Rattle.room.proofs.RoomLaws.{copied-behind, first-copied}
+use Rattle.buffer.specs.Buffer.{copied}
+use Rattle.buffer.proofs.BufferLaws.{copied-behind, first-copied}
 use Rattle.decimal.specs.Decimal.{lastDigits, digitCount, decimalText}
 use Rattle.decimal.proofs.DecimalLaws.{count-most, length-last}
 use Rattle.decimal.proofs.DigitTexts.{text-length}
 use Rattle.benchfile.specs.declared.sheet.Sheet.{Sheet}
-use Rattle.benchfile.specs.Sheet.{line, formatLabel, framesLabel, framedLabel, skippedLabel, pendingLabel, sheetText, longestSheet}
+use Rattle.benchfile.specs.Sheet.{sheetLine, formatLabel, framesLabel, framedLabel, skippedLabel, pendingLabel, sheetText, longestSheet}
 
--- ---- texts laid one behind the other
+-- ---- texts put one behind the other
 
--- u is the room t with a laid from `at` on, and k is the place behind it
+-- u is the buffer t with a put from `at` on, and k is the place behind it
 abbrev pub Laid : List ℕ → ℕ → List ℕ → List ℕ → ℕ → Type 0
 Laid t at a u k = (k ≡ at + length a) × (u ≡ copied a t at)
 
@@ -31,27 +31,27 @@ space = 0x20 ∷ []
 abbrev lineEnd : List ℕ
 lineEnd = 0x0A ∷ []
 
-pub line-length : (label : List ℕ) (n : ℕ) → length (line label n) ≡ length label + digitCount n + 2
-unfolding line
+pub line-length : (label : List ℕ) (n : ℕ) → length (sheetLine label n) ≡ length label + digitCount n + 2
+unfolding sheetLine
 line-length label n =
     omega (arith, length-append label (0x20 ∷ (decimalText n ++ lineEnd)), length-append (decimalText n) lineEnd, text-length n)
 
 -- a number of 32 bits has at most ten digits
-line-short : (label : List ℕ) {n : ℕ} → n < 2 ^ 32 → length (line label n) ≤ length label + 12
+line-short : (label : List ℕ) {n : ℕ} → n < 2 ^ 32 → length (sheetLine label n) ≤ length label + 12
 line-short label {n} h = omega (arith, line-length label n, count-most 9 n (omega arith))
 
 -- the number has k digits
 module _ (label : List ℕ) (n : ℕ) {k : ℕ} (e : k ≡ digitCount n) where
-  line-parts : label ++ space ++ lastDigits k n ++ lineEnd ≡ line label n
-  unfolding line decimalText
+  line-parts : label ++ space ++ lastDigits k n ++ lineEnd ≡ sheetLine label n
+  unfolding sheetLine decimalText
   line-parts =
       rw (e, append-assoc (label ++ space) (lastDigits (digitCount n) n) lineEnd)
       (append-assoc label space (lastDigits (digitCount n) n ++ lineEnd))
 
-  pub line-laid : (t : List ℕ) (at : ℕ) {u v w z : List ℕ} → at + length (line label n) ≤ length t
+  pub line-laid : (t : List ℕ) (at : ℕ) {u v w z : List ℕ} → at + length (sheetLine label n) ≤ length t
       → u ≡ copied label t at → v ≡ copied space u (at + length label)
       → w ≡ copied (lastDigits k n) v (at + length label + 1) → z ≡ copied lineEnd w (at + length label + 1 + k)
-      → Laid t at (line label n) z (at + length label + 1 + k + 1)
+      → Laid t at (sheetLine label n) z (at + length label + 1 + k + 1)
   line-laid t at h p q r s =
       let l = line-length label n in
       let d = lastDigits k n in
@@ -63,8 +63,8 @@ module _ (label : List ℕ) (n : ℕ) {k : ℕ} (e : k ≡ digitCount n) where
 
 module _ (x : Sheet) where
   pub sheet-length : length (sheetText x)
-      ≡ length (line formatLabel (x .format)) + length (line framesLabel (x .frames)) + length (line framedLabel (x .framed))
-      + length (line skippedLabel (x .skipped)) + length (line pendingLabel (x .pending))
+      ≡ length (sheetLine formatLabel (x .format)) + length (sheetLine framesLabel (x .frames)) + length (sheetLine framedLabel (x .framed))
+      + length (sheetLine skippedLabel (x .skipped)) + length (sheetLine pendingLabel (x .pending))
   unfolding sheetText
   sheet-length = simp length-append
 
@@ -73,20 +73,20 @@ module _ (x : Sheet) where
       omega (arith, sheet-length, line-short formatLabel a, line-short framesLabel b, line-short framedLabel c, line-short skippedLabel d, line-short pendingLabel e)
 
   pub sheet-laid : (t : List ℕ) {u v w y z : List ℕ} {i j k l m : ℕ} → length (sheetText x) ≤ length t
-      → Laid t 0 (line formatLabel (x .format)) u i → Laid u i (line framesLabel (x .frames)) v j
-      → Laid v j (line framedLabel (x .framed)) w k → Laid w k (line skippedLabel (x .skipped)) y l
-      → Laid y l (line pendingLabel (x .pending)) z m
+      → Laid t 0 (sheetLine formatLabel (x .format)) u i → Laid u i (sheetLine framesLabel (x .frames)) v j
+      → Laid v j (sheetLine framedLabel (x .framed)) w k → Laid w k (sheetLine skippedLabel (x .skipped)) y l
+      → Laid y l (sheetLine pendingLabel (x .pending)) z m
       → (m ≡ length (sheetText x)) × (take m z ≡ sheetText x)
   unfolding sheetText
   sheet-laid t {m = m} h p q r s o =
-      let a = line formatLabel (x .format) in
-      let b = line framesLabel (x .frames) in
-      let c = line framedLabel (x .framed) in
-      let d = line skippedLabel (x .skipped) in
+      let a = sheetLine formatLabel (x .format) in
+      let b = sheetLine framesLabel (x .frames) in
+      let c = sheetLine framedLabel (x .framed) in
+      let d = sheetLine skippedLabel (x .skipped) in
       let n = sheet-length in
       let two = behind t 0 a b p q (omega arith) in
       let three = behind t 0 (a ++ b) c two r (omega arith) in
       let four = behind t 0 (a ++ b ++ c) d three s (omega arith) in
-      let five = behind t 0 (a ++ b ++ c ++ d) (line pendingLabel (x .pending)) four o (omega arith) in
+      let five = behind t 0 (a ++ b ++ c ++ d) (sheetLine pendingLabel (x .pending)) four o (omega arith) in
       let e : m ≡ length (sheetText x) = omega arith in
       (e, rw (e, five .1) (first-copied (sheetText x) t h))

@@ -1,3 +1,3 @@
 -- What the contracts of `benchfile` cite.
-pub mod Contents
+pub mod Toc
 pub mod Sheet

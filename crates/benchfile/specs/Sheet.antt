@@ -5,8 +5,8 @@ use Rattle.decimal.specs.Decimal.{decimalText}
 use Rattle.benchfile.specs.declared.sheet.Sheet.{Sheet}
 
 -- a label, a space, a number in decimal digits, LF
-unfoldable pub line : List ℕ → ℕ → List ℕ
-line label n = label ++ 0x20 ∷ (decimalText n ++ 0x0A ∷ [])
+unfoldable pub sheetLine : List ℕ → ℕ → List ℕ
+sheetLine label n = label ++ 0x20 ∷ (decimalText n ++ 0x0A ∷ [])
 
 -- the labels, in ASCII
 abbrev pub formatLabel : List ℕ
@@ -27,11 +27,11 @@ pendingLabel = 0x70 ∷ 0x65 ∷ 0x6E ∷ 0x64 ∷ 0x69 ∷ 0x6E ∷ 0x67 ∷ []
 -- five lines, each with its number
 unfoldable pub sheetText : Sheet → List ℕ
 sheetText x =
-    line formatLabel (x .format)
-    ++ line framesLabel (x .frames)
-    ++ line framedLabel (x .framed)
-    ++ line skippedLabel (x .skipped)
-    ++ line pendingLabel (x .pending)
+    sheetLine formatLabel (x .format)
+    ++ sheetLine framesLabel (x .frames)
+    ++ sheetLine framedLabel (x .framed)
+    ++ sheetLine skippedLabel (x .skipped)
+    ++ sheetLine pendingLabel (x .pending)
 
 -- The longest sheet: labels of 32 letters, five spaces and line ends, and five numbers of ten digits.
 abbrev pub longestSheet : ℕ

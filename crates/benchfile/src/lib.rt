@@ -1,25 +1,18 @@
-// Bench files: their contents, judged from the first bytes and the file's length; and the text of a sheet.
+// Bench files: the table of contents, judged from the first bytes and the file's length; and the text of a sheet.
 pub mod sheet;
 
+use answer::Refusal;
 ghost use mathlib.Core.Path.{_≡_};
 ghost use Prim.Native.Nat.{_≤_, _^_, _<_};
-ghost use Rattle.benchfile.specs.Contents.{allKnown, lengths, bodyStart, isContents, isWhole, refusalNumber, lengthAnswer, lengthOf, countAnswer, countOf, entryAnswer, entryAt, entryOf};
+ghost use Rattle.benchfile.specs.Toc.{allKnown, totalLength, entryStart, isToc, isWholeFile, lengthAnswer, fileLengthOf, countAnswer, entryCountOf, entryAnswer, entryAt, entryOf};
 
 // The most entries of a file.
 pub const MOST_ENTRIES: usize = 16;
 
-// The longest contents: those of so many entries.
-pub const LONGEST_CONTENTS: usize = 1 + 6 * MOST_ENTRIES;
+// The longest table of contents: that of so many entries.
+pub const LONGEST_TOC: usize = 1 + 6 * MOST_ENTRIES;
 
-// Why contents are refused. (Document 01's refusals 9 and 10.)
-pub enum Refusal {
-    // There is no entry of this number.
-    NoEntry,
-    // The contents are broken.
-    Broken,
-}
-
-// A capture: its format and port, the length of its body, and where the body starts in the file.
+// An entry: the format and port of a capture, its length, and where it starts in the file.
 pub struct Entry {
     pub format: u8,
     pub port: u8,
@@ -27,31 +20,21 @@ pub struct Entry {
     pub start: u64,
 }
 
-// The length that the contents give to their file.
-pub enum LengthReading {
+// The length that the table of contents gives to its file.
+pub enum LengthResult {
     Read(u64),
     Refused(Refusal),
 }
 
 // The number of entries.
-pub enum CountReading {
+pub enum CountResult {
     Read(u8),
     Refused(Refusal),
 }
 
-pub enum EntryReading {
+pub enum EntryResult {
     Read(Entry),
     Refused(Refusal),
-}
-
-// Document 01's number of a refusal.
-pub fn number_of(r: Refusal) -> u32
-    ensures { λ n. ⌜ n ≡ refusalNumber r ⌝ }
-{
-    match r {
-        Refusal::NoEntry => 9,
-        Refusal::Broken => 10,
-    }
 }
 
 // Whether each of the first n entries has a known format.
@@ -69,8 +52,8 @@ fn all_known(s: &[u8], n: u8) -> bool
 }
 
 // The lengths of the first n entries, added up.
-fn lengths(s: &[u8], n: u8) -> u64
-    ensures { λ r. ⌜ (r ≡ lengths (now (s .entry)) n) × (r < 2 ^ 40) ⌝ }
+fn total_length(s: &[u8], n: u8) -> u64
+    ensures { λ r. ⌜ (r ≡ totalLength (now (s .entry)) n) × (r < 2 ^ 40) ⌝ }
 {
     let mut sum: u64 = 0;
     let mut k: u8 = 0;
@@ -81,16 +64,16 @@ fn lengths(s: &[u8], n: u8) -> u64
     sum
 }
 
-// Where the body of entry i starts.
-fn body_start(s: &[u8], i: u8) -> u64
-    ensures { λ r. ⌜ r ≡ bodyStart (now (s .entry)) i ⌝ }
+// Where the capture of entry i starts.
+fn entry_start(s: &[u8], i: u8) -> u64
+    ensures { λ r. ⌜ r ≡ entryStart (now (s .entry)) i ⌝ }
 {
-    1 + 6 * numbers::byte_at(s, 0, 0) as u64 + lengths(s, i)
+    1 + 6 * numbers::byte_at(s, 0, 0) as u64 + total_length(s, i)
 }
 
-// Whether the bytes begin with contents of 1 to 16 entries, not cut, whose formats are known.
-fn is_contents(s: &[u8]) -> bool
-    ensures { λ r. ⌜ r ≡ isContents (now (s .entry)) ⌝ }
+// Whether the bytes begin with a table of contents of 1 to 16 entries, not cut, whose formats are known.
+fn is_toc(s: &[u8]) -> bool
+    ensures { λ r. ⌜ r ≡ isToc (now (s .entry)) ⌝ }
 {
     let n = numbers::byte_at(s, 0, 0);
     if n < 1 {
@@ -106,33 +89,33 @@ fn is_contents(s: &[u8]) -> bool
 }
 
 // Whether these are the first bytes of a whole file of `len` bytes.
-fn is_whole(s: &[u8], len: u64) -> bool
-    ensures { λ r. ⌜ r ≡ isWhole (now (s .entry)) len ⌝ }
+fn is_whole_file(s: &[u8], len: u64) -> bool
+    ensures { λ r. ⌜ r ≡ isWholeFile (now (s .entry)) len ⌝ }
 {
-    if !is_contents(s) {
+    if !is_toc(s) {
         return false;
     }
-    body_start(s, numbers::byte_at(s, 0, 0)) == len
+    entry_start(s, numbers::byte_at(s, 0, 0)) == len
 }
 
-// The length that the contents give to their file: for a reader who learns the file's length only at its end.
-pub fn read_length(s: &[u8]) -> LengthReading
-    ensures { λ r. ⌜ lengthAnswer r ≡ lengthOf (now (s .entry)) ⌝ }
+// The length that the table of contents gives to its file: for a caller who learns the file's length only at its end.
+pub fn read_length(s: &[u8]) -> LengthResult
+    ensures { λ r. ⌜ lengthAnswer r ≡ fileLengthOf (now (s .entry)) ⌝ }
 {
-    if !is_contents(s) {
-        return LengthReading::Refused(Refusal::Broken);
+    if !is_toc(s) {
+        return LengthResult::Refused(Refusal::BrokenToc);
     }
-    LengthReading::Read(body_start(s, numbers::byte_at(s, 0, 0)))
+    LengthResult::Read(entry_start(s, numbers::byte_at(s, 0, 0)))
 }
 
 // How many entries a file of `len` bytes has, from its first bytes.
-pub fn read_count(s: &[u8], len: u64) -> CountReading
-    ensures { λ r. ⌜ countAnswer r ≡ countOf (now (s .entry)) len ⌝ }
+pub fn read_count(s: &[u8], len: u64) -> CountResult
+    ensures { λ r. ⌜ countAnswer r ≡ entryCountOf (now (s .entry)) len ⌝ }
 {
-    if !is_whole(s, len) {
-        return CountReading::Refused(Refusal::Broken);
+    if !is_whole_file(s, len) {
+        return CountResult::Refused(Refusal::BrokenToc);
     }
-    CountReading::Read(numbers::byte_at(s, 0, 0))
+    CountResult::Read(numbers::byte_at(s, 0, 0))
 }
 
 // Entry i, whichever bytes stand there.
@@ -144,19 +127,19 @@ pub fn entry_at(s: &[u8], i: u8) -> Entry
         format: numbers::byte_at(s, at, 0),
         port: numbers::byte_at(s, at, 1),
         length: numbers::u32_at(s, at + 2),
-        start: body_start(s, i),
+        start: entry_start(s, i),
     }
 }
 
 // Entry i, from 0, of a file of `len` bytes, from its first bytes.
-pub fn read_entry(s: &[u8], len: u64, i: u32) -> EntryReading
+pub fn read_entry(s: &[u8], len: u64, i: u32) -> EntryResult
     ensures { λ r. ⌜ entryAnswer r ≡ entryOf (now (s .entry)) len i ⌝ }
 {
-    if !is_whole(s, len) {
-        return EntryReading::Refused(Refusal::Broken);
+    if !is_whole_file(s, len) {
+        return EntryResult::Refused(Refusal::BrokenToc);
     }
     if numbers::byte_at(s, 0, 0) as u32 <= i {
-        return EntryReading::Refused(Refusal::NoEntry);
+        return EntryResult::Refused(Refusal::OutOfForm);
     }
-    EntryReading::Read(entry_at(s, i as u8))
+    EntryResult::Read(entry_at(s, i as u8))
 }

@@ -6,7 +6,7 @@ use Prim.Native.Nat.{ℕ, zero, suc, _≤_, _<_}
 use native.Mathlib.Omega.{arith}
 use lib.ListN.{List·getD-eq-default}
 use mir.Val.{boolByte}
-use Rattle.calendar.specs.Calendar.{lengths, plainDays}
+use Rattle.calendar.specs.Calendar.{monthLengths, plainDays}
 
 -- m is none of the numbers from 1 to n, as a `match` on them leaves it
 abbrev Beside : ℕ → ℕ → Type 0
@@ -20,7 +20,7 @@ above (suc n) m h r = omega (arith, above n m h (r .0), r .1)
 pub no-days : (m : ℕ) → Beside 12 m → 0 ≡ plainDays m
 unfolding plainDays
 no-days zero r = refl
-no-days (suc i) r = sym (List·getD-eq-default lengths 0 {n = i} (omega (arith, above 12 (suc i) (omega arith) r)))
+no-days (suc i) r = sym (List·getD-eq-default monthLengths 0 {n = i} (omega (arith, above 12 (suc i) (omega arith) r)))
 
 pub no-month : (m : ℕ) → m ≤ 12 → Beside 12 m → m ≡ 0
 no-month zero h r = refl

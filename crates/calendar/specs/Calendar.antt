@@ -10,8 +10,8 @@ unfoldable pub leap : ℕ → Bool
 leap y = cond (eqb (y % 400) 0) true (cond (eqb (y % 100) 0) false (eqb (y % 4) 0))
 
 -- January to December, February without its leap day
-abbrev pub lengths : List ℕ
-lengths = 31 ∷ 28 ∷ 31 ∷ 30 ∷ 31 ∷ 30 ∷ 31 ∷ 31 ∷ 30 ∷ 31 ∷ 30 ∷ 31 ∷ []
+abbrev pub monthLengths : List ℕ
+monthLengths = 31 ∷ 28 ∷ 31 ∷ 30 ∷ 31 ∷ 30 ∷ 31 ∷ 31 ∷ 30 ∷ 31 ∷ 30 ∷ 31 ∷ []
 
 -- the leap day of February, which is month 2
 unfoldable pub leapDay : ℕ → ℕ → ℕ
@@ -20,7 +20,7 @@ leapDay y m = cond (eqb m 2) (cond (leap y) 1 0) 0
 -- the days of month m, from 1: without the leap day, and with it
 unfoldable pub plainDays : ℕ → ℕ
 plainDays zero = 0
-plainDays (suc i) = getD lengths i 0
+plainDays (suc i) = getD monthLengths i 0
 
 unfoldable pub monthDays : ℕ → ℕ → ℕ
 monthDays y m = plainDays m + leapDay y m

@@ -17,15 +17,15 @@ use Rattle.content.specs.Body.{isFrame, bodyOf}
 use Rattle.content.proofs.BodyLaws.{frame-test, place-at, body-at}
 use Rattle.mgl.specs.declared.Header.{Header}
 use Rattle.mgl.specs.Header.{headerOf}
-use Rattle.writer.specs.Frames.{takes}
-use Rattle.writer.specs.Output.{write}
-use Rattle.roundtrips.specs.FrameTrips.{frameOf, contentOf, writable}
+use Rattle.frame_writer.specs.Frames.{takes, frameOf}
+use Rattle.frame_writer.specs.Output.{write}
+use Rattle.roundtrip_theorems.specs.FrameTrips.{contentOf, writable}
 use Rattle.framing.proofs.ByteLaws.{bytes-at}
-use Rattle.roundtrips.proofs.FramesRewritten.{rewritten}
-use Rattle.roundtrips.proofs.FramesTaken.{frames-taken}
-use Rattle.values.specs.declared.Values.{Values}
-use Rattle.values.specs.Values.{valuesOf, spanValues}
-use Rattle.capi.specs.Write.{headerIn, frameFor, writeFrame}
+use Rattle.roundtrip_theorems.proofs.FramesRewritten.{rewritten}
+use Rattle.roundtrip_theorems.proofs.FramesTaken.{frames-taken}
+use Rattle.capture_values.specs.declared.Values.{Values}
+use Rattle.capture_values.specs.Values.{valuesOf, spanValues}
+use Rattle.capture.specs.Write.{headerIn, contentIn}
 use Rattle.capture_theorems.specs.Trips.{Reads, Writes, TakenApart, WrittenAgain, ExportedFrameReadThenWritten}
 use Rattle.capture_theorems.proofs.Rows.{no-frame, place-row, header-row, exported-frames-read}
 use Rattle.capture_theorems.proofs.Shown.{shown}
@@ -47,15 +47,15 @@ module _ {n : ℕ} {header body s : List ℕ} (t : TakenApart n header body s) w
 
 -- ---- the header
 
--- the header that a reading shows, and its number
+-- the header that a field function shows, and its number
 abbrev headerShown : Values → Header
-headerShown v = record { kind = shown 0 v; rate = shown 1 v; count = shown 2 v; version = shown 3 v }
+headerShown v = record { «message_type» = shown 0 v; rate = shown 1 v; count = shown 2 v; version = shown 3 v }
 
 abbrev headerNumber : Header → ℕ
-headerNumber h = h .kind + h .rate * 256 + h .count * 65536 + h .version * 16777216
+headerNumber h = h .«message_type» + h .rate * 256 + h .count * 65536 + h .version * 16777216
 
 abbrev headerBytes : Header → List ℕ
-headerBytes h = h .kind ∷ h .rate ∷ h .count ∷ h .version ∷ []
+headerBytes h = h .«message_type» ∷ h .rate ∷ h .count ∷ h .version ∷ []
 
 -- The bytes of the number of a header are the header's.
 bytes-again : (h : Header) → Bytes (headerBytes h) → lowBytes 4 (headerNumber h) ≡ headerBytes h
@@ -78,7 +78,7 @@ header-bytes s b h = rw h (bytes-at s b 4, (bytes-at s b 5, (bytes-at s b 6, (by
 
 frame-again : (n : ℕ) (h : Header) (s : List ℕ) → Bytes s → isFrame (formatOf n) s ≡ true
     → (n ≡ 1 → Reads 101 s (headerBytes h))
-    → frameFor (formatOf n) (headerNumber h) (bodyOf (formatOf n) s) ≡ frameOf (formatOf n) (contentOf (formatOf n) s)
+    → frameOf (formatOf n) (contentIn (headerNumber h) (bodyOf (formatOf n) s)) ≡ frameOf (formatOf n) (contentOf (formatOf n) s)
 unfolding formatOf
 frame-again zero h s b f e = refl
 frame-again (suc zero) h s b f e =
@@ -109,28 +109,27 @@ not-five true e = omega arith
 not-five false e = omega arith
 
 -- what the writer answers, by whether it takes the body
-by-taken : (P : Type 0) (t : Bool) (frame s room : List ℕ) → (t ≡ false) ↔ P → (t ≡ true → frame ≡ s)
-    → ((write 5 t frame room .number ≡ 5) ↔ P)
-    × ((write 5 t frame room .number ≡ 5 → ⊥) → Writes s room (write 5 t frame room))
+by-taken : (P : Type 0) (t : Bool) (frame s out : List ℕ) → (t ≡ false) ↔ P → (t ≡ true → frame ≡ s)
+    → ((write 5 t frame out .number ≡ 5) ↔ P)
+    × ((write 5 t frame out .number ≡ 5 → ⊥) → Writes s out (write 5 t frame out))
 unfolding write
-by-taken P true frame s room p e =
-    let w : Writes s room (write 5 true frame room) = rw (e refl) (writes 4 s room) in
-    let never = not-five (leb (length s) (length room)) in
+by-taken P true frame s out p e =
+    let w : Writes s out (write 5 true frame out) = rw (e refl) (writes 4 s out) in
+    let never = not-five (leb (length s) (length out)) in
     ((λ five. absurd (never (sym (w .answer) ∙ five)), λ q. absurd (true≢false (p .1 q))), λ five. w)
-by-taken P false frame s room p e = ((λ five. p .0 refl, λ q. refl), λ five. absurd (five refl))
+by-taken P false frame s out p e = ((λ five. p .0 refl, λ q. refl), λ five. absurd (five refl))
 
-again : (n : ℕ) (h : Header) (body s room : List ℕ) → Bytes s → TakenApart n (headerBytes h) body s
-    → WrittenAgain n (headerNumber h) body s room
-unfolding writeFrame
-again n h body s room b t =
+again : (n : ℕ) (h : Header) (body s out : List ℕ) → Bytes s → TakenApart n (headerBytes h) body s
+    → WrittenAgain n (headerNumber h) body s out
+again n h body s out b t =
     let f = formatOf n in
     let i = is-frame t in
     let frame = frame-test f s .0 i in
     let w =
-    by-taken _ (takes f (bodyOf f s)) _ s room (refuses n s i (frames-taken f s frame))
+    by-taken _ (takes f (bodyOf f s)) _ s out (refuses n s i (frames-taken f s frame))
     (λ k. frame-again n h s b i (t .head) ∙ rewritten f s b frame k) in
-    subst (λ (x : List ℕ). WrittenAgain n (headerNumber h) x s room) (body-is t) (record { refused = w .0; again = w .1 })
+    subst (λ (x : List ℕ). WrittenAgain n (headerNumber h) x s out) (body-is t) (record { refused = w .0; again = w .1 })
 
 pub exported-frame-read-then-written : ExportedFrameReadThenWritten
-exported-frame-read-then-written n kind rate count version body s room b t =
-    again n (record { kind = kind; rate = rate; count = count; version = version }) body s room b t
+exported-frame-read-then-written n messageType rate count version body s out b t =
+    again n (record { «message_type» = messageType; rate = rate; count = count; version = version }) body s out b t

@@ -4,11 +4,11 @@ use mathlib.Core.Path.{_≡_, sym, ap, subst, _∙_}
 use lib.IntN.{ℤ}
 use mir.Syntax.{w16}
 use mir.Val.{SFits}
-use Rattle.content.specs.Answer.{Answer, given}
-use Rattle.gyro.specs.Gyro.{hundredthsOf, numberOf}
-use Rattle.roundtrips.proofs.GyroTrips.{gyro-read-then-written, gyro-exactly}
-use Rattle.values.specs.Values.{valuesOf, signedValues}
-use Rattle.values.specs.Readings.{gyroValues}
+use Rattle.answer.specs.Answer.{Answer, given}
+use Rattle.mgl_gyro.specs.Gyro.{hundredthsOf, numberOf}
+use Rattle.roundtrip_theorems.proofs.GyroTrips.{gyro-read-then-written, gyro-exactly}
+use Rattle.capture_values.specs.Values.{valuesOf, signedValues}
+use Rattle.capture_values.specs.FieldFunctions.{gyroValues}
 use Rattle.capture_theorems.specs.Trips.{ExportedGyroWrittenThenRead, ExportedGyroReadThenWritten}
 
 pub exported-gyro-read-then-written : ExportedGyroReadThenWritten

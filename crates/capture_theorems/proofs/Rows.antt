@@ -1,4 +1,4 @@
--- The readings that take a frame apart, by their numbers, and the bytes that they take apart.
+-- The field functions that take a frame apart, by their numbers, and the bytes that they take apart.
 -- Assumes nothing.
 use Prim.Native.Nat.{ℕ, zero, suc, _*_, _/_}
 use mathlib.Core.Path.{_≡_, refl, sym, ap, _∙_}
@@ -8,13 +8,13 @@ use native.Mathlib.Omega.{arith}
 use Rattle.framing.specs.Format.{Format, unknown, formatOf, next}
 use Rattle.framing.specs.Shape.{scan, scanFrom}
 use Rattle.framing.specs.Frame.{front}
-use Rattle.content.specs.Answer.{Answer, unless}
+use Rattle.answer.specs.Answer.{Answer, unless}
 use Rattle.content.specs.Body.{Span, isFrame, placeOf}
 use Rattle.content.proofs.BodyLaws.{frame-test, place-at}
 use Rattle.mgl.specs.Header.{headerOf}
-use Rattle.values.specs.declared.Values.{Values}
-use Rattle.values.specs.Values.{valuesOf, spanValues, headerValues}
-use Rattle.values.specs.Readings.{readings, readingOf}
+use Rattle.capture_values.specs.declared.Values.{Values}
+use Rattle.capture_values.specs.Values.{valuesOf, spanValues, headerValues}
+use Rattle.capture_values.specs.FieldFunctions.{fieldFunctions, readValues}
 use Rattle.capture_theorems.specs.Trips.{ExportedFramesRead}
 
 -- no bytes are a frame of an unknown format
@@ -26,10 +26,10 @@ none-unknown (x ∷ s) = refl
 pub no-frame : (s : List ℕ) → isFrame unknown s ≡ true → ⊥
 no-frame s h = true≢false (sym h ∙ none-unknown s)
 
--- The first reading of a format gives the place of the body. A number of no format has no readings, and is refused with
+-- The first field function of a format gives the place of the body. A number of no format has none, and is refused with
 -- 7 like the place of the body in a format that has no frames.
-pub place-row : (n : ℕ) (s : List ℕ) → readingOf (n * 100) 0 s ≡ valuesOf spanValues (placeOf (formatOf n) s)
-unfolding readingOf readings formatOf placeOf
+pub place-row : (n : ℕ) (s : List ℕ) → readValues (n * 100) 0 s ≡ valuesOf spanValues (placeOf (formatOf n) s)
+unfolding readValues fieldFunctions formatOf placeOf
 place-row zero s = rw (none-unknown s)
 place-row (suc zero) s = refl
 place-row (suc (suc zero)) s = refl
@@ -38,8 +38,8 @@ place-row (suc (suc (suc (suc n)))) s =
     let h : suc (suc (suc (suc n))) * 100 / 100 ≡ suc (suc (suc (suc n))) = omega arith in
     rw (h, none-unknown s)
 
-pub header-row : (s : List ℕ) → readingOf 101 0 s ≡ valuesOf headerValues (headerOf s)
-unfolding readingOf readings formatOf
+pub header-row : (s : List ℕ) → readValues 101 0 s ≡ valuesOf headerValues (headerOf s)
+unfolding readValues fieldFunctions formatOf
 header-row s = refl
 
 -- ---- which bytes are taken apart

@@ -1,9 +1,9 @@
--- The natural numbers among the values of a reading.
+-- The natural numbers among the values of a field function.
 -- Assumes nothing.
 use Prim.Native.Nat.{ℕ}
 use lib.IntN.{ℤ, pos, negsuc}
 use lib.ListN.{getD}
-use Rattle.values.specs.declared.Values.{Values}
+use Rattle.capture_values.specs.declared.Values.{Values}
 
 abbrev natural : ℤ → ℕ
 natural (pos n) = n

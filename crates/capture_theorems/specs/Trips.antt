@@ -1,6 +1,6 @@
--- Demand 2 for the functions that C and Rust call (docs/INTERFACE.md): the exported readings read back what the
--- exported writers make, and the exported writers write again what the exported readings read. The contracts of the
--- functions equal the definitions named here: `capture_read` is `readingOf`, `capture_write` is `writeFrame`,
+-- Demand 2 for the functions that C and Rust call (docs/INTERFACE.md): the exported field functions read back what
+-- the exported writers make, and the exported writers write again what the field functions read. The contracts of the
+-- functions equal the definitions named here: `capture_read` is `readValues`, `capture_write` is `writeFrame`,
 -- `capture_write_setting` is `writeSetting`, `capture_gyro` is `hundredthsOf`, and `capture_write_gyro` is
 -- `gyroValues`.
 use Prim.Native.Nat.{ℕ, _+_, _*_, _%_}
@@ -18,36 +18,39 @@ use Rattle.framing.specs.Rules.{part}
 use Rattle.framing.specs.Format.{formatOf}
 use Rattle.framing.specs.Meaning.{Bytes}
 use Rattle.framing.specs.Frame.{IsFrame}
-use Rattle.content.specs.Answer.{Answer}
-use Rattle.gyro.specs.Gyro.{hundredthsOf}
-use Rattle.writer.specs.Output.{Output}
-use Rattle.roundtrips.specs.FrameTrips.{made}
-use Rattle.values.specs.Values.{numbered}
-use Rattle.values.specs.Readings.{readingOf, gyroValues}
-use Rattle.capi.specs.Write.{writeFrame, writeSetting}
+use Rattle.answer.specs.Answer.{Answer}
+use Rattle.mgl_gyro.specs.Gyro.{hundredthsOf}
+use Rattle.nmea_plars.specs.declared.Setting.{Setting}
+use Rattle.frame_writer.specs.Output.{Output, writeFrame}
+use Rattle.nmea_plars_writer.specs.Text.{writeSetting}
+use Rattle.roundtrip_theorems.specs.FrameTrips.{made}
+use Rattle.capture_values.specs.Values.{numbered}
+use Rattle.capture_values.specs.FieldFunctions.{readValues, gyroValues}
+use Rattle.capture.specs.Write.{contentIn}
 
--- The reading of the bytes s answers 0 and the values xs, with zeros after them.
+-- The field function with this number answers 0 for the bytes s, and the values xs, with zeros after them.
 abbrev pub Reads : ℕ → List ℕ → List ℕ → Type 0
-Reads reading s xs = readingOf reading 0 s ≡ numbered 0 (map pos xs)
+Reads function s xs = readValues function 0 s ≡ numbered 0 (map pos xs)
 
--- The answer w of a writer that wrote s in this room: 6 where the room is smaller than s, otherwise 0, and then it made
+-- The answer w of a writer that wrote s in this output: 6 where the output is smaller than s, otherwise 0, and then it made
 -- s.
-pub record Writes (s room : List ℕ) (w : Answer Output) : Type 0 where
-  pub answer : w .number ≡ cond (leb (length s) (length room)) 0 6
+pub record Writes (s out : List ℕ) (w : Answer Output) : Type 0 where
+  pub answer : w .number ≡ cond (leb (length s) (length out)) 0 6
   pub same : w .number ≡ 0 → made w ≡ s
 
--- The item is looked at by reading 104 alone, the tank of its number. So the statements below, which give it as 0, hold for every item.
+-- The item is looked at by field function 104 alone, the tank of its number. So the statements below, which give it as 0,
+-- hold for every item.
 abbrev pub ItemsOfTanks : Type 0
-ItemsOfTanks = (reading item : ℕ) (s : List ℕ) → (reading ≡ 104 → ⊥) → readingOf reading item s ≡ readingOf reading 0 s
+ItemsOfTanks = (function item : ℕ) (s : List ℕ) → (function ≡ 104 → ⊥) → readValues function item s ≡ readValues function 0 s
 
 -- ---- whole frames
 
--- Reading n * 100 answers 0 exactly for the bytes that are one frame of format n.
+-- Field function n * 100 answers 0 exactly for the bytes that are one frame of format n.
 abbrev pub ExportedFramesRead : Type 0
-ExportedFramesRead = (n : ℕ) (s : List ℕ) → (readingOf (n * 100) 0 s .number ≡ 0) ↔ IsFrame (formatOf n) s
+ExportedFramesRead = (n : ℕ) (s : List ℕ) → (readValues (n * 100) 0 s .number ≡ 0) ↔ IsFrame (formatOf n) s
 
--- `capture_read` takes the bytes s apart as a frame of format n: reading n * 100 gives the start and the end of the
--- body. For MGL, reading 101 gives the header, that is type, rate, count and version.
+-- `capture_read` takes the bytes s apart as a frame of format n: field function n * 100 gives the start and the
+-- end of the body. For MGL, field function 101 gives the header, that is message type, rate, count and version.
 pub record TakenApart (n : ℕ) (header body s : List ℕ) : Type 0 where
   pub start : ℕ
   pub end : ℕ
@@ -59,34 +62,34 @@ pub record TakenApart (n : ℕ) (header body s : List ℕ) : Type 0 where
 -- low byte first.
 abbrev pub ExportedFrameWrittenThenRead : Type 0
 ExportedFrameWrittenThenRead =
-    (n header : ℕ) (body room : List ℕ) → Bytes body → writeFrame n header body room .number ≡ 0
-    → TakenApart n (lowBytes 4 header) body (made (writeFrame n header body room))
+    (n header : ℕ) (body out : List ℕ) → Bytes body → writeFrame (formatOf n) (contentIn header body) out .number ≡ 0
+    → TakenApart n (lowBytes 4 header) body (made (writeFrame (formatOf n) (contentIn header body) out))
 
 -- "A frame whose content that writer takes, taken apart and written again, gives the same bytes." The writer refuses
 -- with 5 exactly the MGL bodies whose length is no multiple of 4, and takes every other frame.
-pub record WrittenAgain (n header : ℕ) (body s room : List ℕ) : Type 0 where
-  pub refused : (writeFrame n header body room .number ≡ 5) ↔ ((n ≡ 1) × (length body % 4 ≡ 0 → ⊥))
-  pub again : (writeFrame n header body room .number ≡ 5 → ⊥) → Writes s room (writeFrame n header body room)
+pub record WrittenAgain (n header : ℕ) (body s out : List ℕ) : Type 0 where
+  pub refused : (writeFrame (formatOf n) (contentIn header body) out .number ≡ 5) ↔ ((n ≡ 1) × (length body % 4 ≡ 0 → ⊥))
+  pub again : (writeFrame (formatOf n) (contentIn header body) out .number ≡ 5 → ⊥) → Writes s out (writeFrame (formatOf n) (contentIn header body) out)
 
--- The header number is made of the four values of reading 101, low byte first. For the other formats it is any number.
+-- The header number is made of the four values of field function 101, low byte first. For the other formats it is any number.
 abbrev pub ExportedFrameReadThenWritten : Type 0
 ExportedFrameReadThenWritten =
-    (n kind rate count version : ℕ) (body s room : List ℕ) → Bytes s
-    → TakenApart n (kind ∷ rate ∷ count ∷ version ∷ []) body s
-    → WrittenAgain n (kind + rate * 256 + count * 65536 + version * 16777216) body s room
+    (n messageType rate count version : ℕ) (body s out : List ℕ) → Bytes s
+    → TakenApart n (messageType ∷ rate ∷ count ∷ version ∷ []) body s
+    → WrittenAgain n (messageType + rate * 256 + count * 65536 + version * 16777216) body s out
 
 -- ---- PLARS settings
 
 abbrev pub ExportedSettingWrittenThenRead : Type 0
 ExportedSettingWrittenThenRead =
-    (source parameter value : ℕ) (room : List ℕ) → writeSetting source parameter value room .number ≡ 0
-    → Reads 304 (made (writeSetting source parameter value room)) (source ∷ parameter ∷ value ∷ [])
+    (x : Setting) (out : List ℕ) → writeSetting x out .number ≡ 0
+    → Reads 304 (made (writeSetting x out)) (x .source ∷ x .parameter ∷ x .value ∷ [])
 
 -- The writer takes every setting that is read: it never answers 9.
 abbrev pub ExportedSettingReadThenWritten : Type 0
 ExportedSettingReadThenWritten =
-    (source parameter value : ℕ) (s room : List ℕ) → Reads 304 s (source ∷ parameter ∷ value ∷ [])
-    → Writes s room (writeSetting source parameter value room)
+    (x : Setting) (s out : List ℕ) → Reads 304 s (x .source ∷ x .parameter ∷ x .value ∷ [])
+    → Writes s out (writeSetting x out)
 
 -- ---- gyro numbers
 

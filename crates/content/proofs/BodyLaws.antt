@@ -19,9 +19,9 @@ use Rattle.framing.specs.Frame.{front, IsFrame}
 use Rattle.framing.proofs.FormatLaws.{lawful, good-known, body-fits}
 use Rattle.framing.proofs.FrameLaws.{frame-means}
 use Rattle.framing.proofs.Length.{Within, whole-within, longest-pending}
-use Rattle.content.specs.Answer.{given}
+use Rattle.answer.specs.Answer.{given}
 use Rattle.content.specs.Body.{spans, isFrame, placeOf, bodyOf, betweenOf}
-use Rattle.content.proofs.AnswerLaws.{passes}
+use Rattle.answer.proofs.AnswerLaws.{passes}
 
 -- ---- the test
 
@@ -89,9 +89,9 @@ module _ (f : Format) (s : List ℕ) {a e : ℕ} (p : a ≡ bodyStart f) (q : e 
   unfolding betweenOf
   between-at = rw (p, q)
 
-  pub no-room : length s < a + e → [] ≡ betweenOf f s
+  pub too-short : length s < a + e → [] ≡ betweenOf f s
   unfolding betweenOf
-  no-room h = let z : length s - bodyEnd f - bodyStart f ≡ 0 = omega arith in rw z
+  too-short h = let z : length s - bodyEnd f - bodyStart f ≡ 0 = omega arith in rw z
 
 -- the same of a frame
 module _ (f : Format) (s : List ℕ) {a e : ℕ} (h : isFrame f s ≡ true) (p : a ≡ bodyStart f) (q : e ≡ bodyEnd f) where
@@ -113,4 +113,4 @@ body-length f s h =
 
 -- The body of a frame is not empty: a byte more than what stands around it is there in the shortest.
 pub body-some : (f : Format) (s : List ℕ) → isFrame f s ≡ true → 0 < length (bodyOf f s)
-body-some f s h = omega (arith, body-length f s h, lawful f .body-room (good-known f s (checksum-right f s h)), frame-long f s h)
+body-some f s h = omega (arith, body-length f s h, lawful f .body-space (good-known f s (checksum-right f s h)), frame-long f s h)

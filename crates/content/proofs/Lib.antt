@@ -1,3 +1,2 @@
--- Laws of answers and bodies, each proved once over the format; and the proofs of the functions.
-pub mod AnswerLaws
+-- Laws of bodies, each proved once over the format; and the proofs of the functions.
 pub mod BodyLaws

@@ -11,7 +11,7 @@ use Rattle.framing.specs.Format.{Format, bodyStart, bodyEnd}
 use Rattle.framing.specs.Frame.{front}
 use Rattle.content.specs.declared.Place.{Place}
 use Rattle.content.specs.declared.Place.the-variants.{At, Refused}
-use Rattle.content.specs.Answer.{Answer, given, refused, unless, refusalNumber}
+use Rattle.answer.specs.Answer.{Answer, given, refused, unless, refusalNumber}
 
 -- they begin with a frame of all n bytes
 abbrev pub spans : Found → ℕ → Bool

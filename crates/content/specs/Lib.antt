@@ -1,4 +1,3 @@
 -- What the contracts of `content` cite.
-pub mod Answer
 pub mod Body
 pub mod Shared

@@ -2,17 +2,17 @@
 use Prim.Native.Nat.{ℕ}
 use lib.IntN.{ℤ, pos}
 use Rattle.calendar.specs.Clocks.{ClockValues, clockValues}
-use Rattle.content.specs.declared.NumberReading.{NumberReading}
-use Rattle.content.specs.declared.NumberReading.the-variants as number
+use Rattle.content.specs.declared.NumberResult.{NumberResult}
+use Rattle.content.specs.declared.NumberResult.the-variants as number
 use Rattle.content.specs.declared.Judged.{Judged}
 use Rattle.content.specs.declared.Judged.the-variants as judged
-use Rattle.content.specs.declared.ClockReading.{ClockReading}
-use Rattle.content.specs.declared.ClockReading.the-variants as clock
-use Rattle.content.specs.declared.PositionReading.{PositionReading}
-use Rattle.content.specs.declared.PositionReading.the-variants as position
-use Rattle.content.specs.Answer.{Answer, given, refused, refusalNumber}
+use Rattle.content.specs.declared.ClockResult.{ClockResult}
+use Rattle.content.specs.declared.ClockResult.the-variants as clock
+use Rattle.content.specs.declared.PositionResult.{PositionResult}
+use Rattle.content.specs.declared.PositionResult.the-variants as position
+use Rattle.answer.specs.Answer.{Answer, given, refused, refusalNumber}
 
-abbrev pub numberAnswer : NumberReading → Answer ℕ
+abbrev pub numberAnswer : NumberResult → Answer ℕ
 numberAnswer (number.Read n) = given n
 numberAnswer (number.Refused r) = refused 0 (refusalNumber r)
 
@@ -23,7 +23,7 @@ judgedNumber (judged.Refused r) = refusalNumber r
 abbrev pub noClock : ClockValues
 noClock = record { which = 0; seconds = pos 0 }
 
-abbrev pub clockAnswer : ClockReading → Answer ClockValues
+abbrev pub clockAnswer : ClockResult → Answer ClockValues
 clockAnswer (clock.Read c) = given (clockValues c)
 clockAnswer (clock.Refused r) = refused noClock (refusalNumber r)
 
@@ -34,6 +34,6 @@ pub record Position : Type 0 where
 abbrev pub noPosition : Position
 noPosition = record { latitude = pos 0; longitude = pos 0 }
 
-abbrev pub positionAnswer : PositionReading → Answer Position
+abbrev pub positionAnswer : PositionResult → Answer Position
 positionAnswer (position.Read a b) = given (record { latitude = a; longitude = b })
 positionAnswer (position.Refused r) = refused noPosition (refusalNumber r)

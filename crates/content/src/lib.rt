@@ -1,20 +1,10 @@
-// What every reading of a frame's content shares: whether bytes are one whole frame, where its body is, and the refusals.
+// What all field functions share: whether bytes are one whole frame, where its body is, and the types of their answers.
 ghost use mathlib.Core.Path.{_≡_};
 ghost use Rattle.framing.specs.Format.{formatOf};
-ghost use Rattle.content.specs.Answer.{refusalNumber};
 ghost use Rattle.content.specs.Body.{isFrame, placeAnswer, placeOf, bodyOf, betweenOf};
+use answer::Refusal;
 use calendar::Clock;
-use framing::run;
-
-// Why a reading refuses. (Document 01's refusals 7, 8 and 9.)
-pub enum Refusal {
-    // The bytes are not one whole frame of the format.
-    NotOneFrame,
-    // A frame, but of another message, version or size.
-    OtherMessage,
-    // A field outside its form or range, or an item past the last.
-    OutOfForm,
-}
+use framing::frame_run;
 
 // Where the body of a frame is: from `start` up to `end`.
 pub enum Place {
@@ -23,45 +13,34 @@ pub enum Place {
 }
 
 // A number of any format: a count, milliseconds, pascals.
-pub enum NumberReading {
+pub enum NumberResult {
     Read(u32),
     Refused(Refusal),
 }
 
-// Whether a reading was done, where its value is an array that is returned beside it.
+// Whether a field function was refused, where its value is an array that is returned beside it.
 pub enum Judged {
     Done,
     Refused(Refusal),
 }
 
 // A clock, of any format.
-pub enum ClockReading {
+pub enum ClockResult {
     Read(Clock),
     Refused(Refusal),
 }
 
 // A latitude and a longitude, in the format's own unit; south and west are below 0.
-pub enum PositionReading {
+pub enum PositionResult {
     Read { latitude: i32, longitude: i32 },
     Refused(Refusal),
-}
-
-// Document 01's number of a refusal.
-pub fn number_of(r: Refusal) -> u32
-    ensures { λ n. ⌜ n ≡ refusalNumber r ⌝ }
-{
-    match r {
-        Refusal::NotOneFrame => 7,
-        Refusal::OtherMessage => 8,
-        Refusal::OutOfForm => 9,
-    }
 }
 
 // Whether a slice is one whole frame of a format, for every format number.
 pub fn is_frame(format: u32, s: &[u8]) -> bool
     ensures { λ r. ⌜ r ≡ isFrame (formatOf format) (now (s .entry)) ⌝ }
 {
-    let found = run::leading(format, s, 1);
+    let found = frame_run::frame_run(format, s, 1);
     if found.frames == 1 {
         return found.bytes == s.len();
     }

@@ -10,8 +10,8 @@ use native.Mathlib.Omega.{arith}
 use lib.Dec.{leb}
 use lib.ListN.{length, set, length-append}
 use borrow.Author.Tests.{le-leb, lt-leb}
-use Rattle.room.specs.Room.{copied}
-use Rattle.room.proofs.RoomLaws.{copied-last}
+use Rattle.buffer.specs.Buffer.{copied}
+use Rattle.buffer.proofs.BufferLaws.{copied-last}
 use Rattle.decimal.specs.Decimal.{lastDigits, countSteps, digitCount}
 
 -- ---- how many
@@ -75,11 +75,11 @@ unfolding lastDigits
 length-last zero n = refl
 length-last (suc k) n = omega (arith, length-append (lastDigits k (n / 10)) ((0x30 + n % 10) ∷ []), length-last k (n / 10))
 
--- the last of them laid, and then those before it
-pub last-laid : (j n : ℕ) (room : List ℕ) (at : ℕ) → 0 < j → at + j ≤ length room
-    → copied (lastDigits (j - 1) (n / 10)) (set room (at + (j - 1)) (0x30 + n % 10)) at ≡ copied (lastDigits j n) room at
+-- the last of them put, and then those before it
+pub last-laid : (j n : ℕ) (out : List ℕ) (at : ℕ) → 0 < j → at + j ≤ length out
+    → copied (lastDigits (j - 1) (n / 10)) (set out (at + (j - 1)) (0x30 + n % 10)) at ≡ copied (lastDigits j n) out at
 unfolding lastDigits
-last-laid zero n room at h f = absurd (omega arith)
-last-laid (suc j) n room at h f =
+last-laid zero n out at h f = absurd (omega arith)
+last-laid (suc j) n out at h f =
     let e : suc j - 1 ≡ j = omega arith in
-    rw e (copied-last (lastDigits j (n / 10)) room (0x30 + n % 10) at j (length-last j (n / 10)) (omega arith))
+    rw e (copied-last (lastDigits j (n / 10)) out (0x30 + n % 10) at j (length-last j (n / 10)) (omega arith))

@@ -30,7 +30,7 @@ unknown-lawful =
       sound-next = λ P k m b p h. tt;
       sound-bound = λ P k m h. h;
       completes = λ t. absurd t;
-      body-room = λ t. absurd t;
+      body-space = λ t. absurd t;
       in-order = omega arith;
       most = omega arith;
     }
@@ -56,7 +56,7 @@ fits-none f e = subst (λ (r : Rules). r .layout .head + r .layout .tail ≤ r .
 
 -- what stands before the body and after it lies inside
 pub body-fits : (f : Format) → bodyStart f + bodyEnd f ≤ shortest f
-body-fits f = ⊎-elim (λ t. omega (arith, lawful f .body-room t)) (fits-none f) (lawful f .known-or-none)
+body-fits f = ⊎-elim (λ t. omega (arith, lawful f .body-space t)) (fits-none f) (lawful f .known-or-none)
 
 -- ---- numbers
 

@@ -10,7 +10,7 @@ use lib.Seq.{getD-append-add}
 use borrow.Author.Tests.{lt-leb, ltb-true, ltb-false}
 use Rattle.framing.specs.declared.Scanned.the-variants.{Partial}
 use Rattle.framing.specs.Format.{Format, mgl, onflight, nmea, next}
-use Rattle.framing.specs.Mgl.{lengthOf, mglNext}
+use Rattle.framing.specs.Mgl.{lengthFromByte, mglNext}
 use Rattle.framing.specs.Onflight.{onflightNext}
 use Rattle.framing.specs.Nmea.{permitted}
 use Rattle.framing.specs.Shape.{scan}
@@ -35,7 +35,7 @@ module _ (s : List ℕ) (l : 4 ≤ length s) (ys : List ℕ) where
   longer : 4 ≤ length (s ++ ys)
   longer = omega (arith, length-append s ys)
 
-  head-mgl : getD s 0 0 ≡ 0x05 → getD s 1 0 ≡ 0x02 → getD s 2 0 + getD s 3 0 ≡ 255 → (m : ℕ) → lengthOf (getD s 2 0) + 20 ≡ m
+  head-mgl : getD s 0 0 ≡ 0x05 → getD s 1 0 ≡ 0x02 → getD s 2 0 + getD s 3 0 ≡ 255 → (m : ℕ) → lengthFromByte (getD s 2 0) + 20 ≡ m
       → length (s ++ ys) < m → scan mgl (s ++ ys) ≡ Partial
   unfolding scan next mglNext
   head-mgl a b h m e k =
@@ -56,7 +56,7 @@ module _ (s : List ℕ) (l : 4 ≤ length s) (ys : List ℕ) where
       ∙ rw (lt-leb 158 (length (s ++ ys)) k)
 
 module _ (s : List ℕ) (l : 4 ≤ length s) (a : getD s 0 0 ≡ 0x05) (b : getD s 1 0 ≡ 0x02) (h : getD s 2 0 + getD s 3 0 ≡ 255) where
-  pub mgl-needs : (m : ℕ) → lengthOf (getD s 2 0) + 20 ≡ m → Needs mgl s m
+  pub mgl-needs : (m : ℕ) → lengthFromByte (getD s 2 0) + 20 ≡ m → Needs mgl s m
   mgl-needs m e ys k = head-mgl s l ys a b h m e k
 
 pub onflight-needs : (s : List ℕ) → 4 ≤ length s → getD s 0 0 ≡ 0x42 → getD s 1 0 ≡ 0x46 → getD s 2 0 ≡ 0x01 → getD s 3 0 ≡ 0x98

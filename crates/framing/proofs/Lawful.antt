@@ -81,7 +81,7 @@ pub record Lawful (f : Format) : Type 1 where
   pub sound-bound : (P : ℕ → Type 0) (k m : ℕ) → Sound P k m → k ≤ pendingBound f
   pub completes : T (known f) → (k m : ℕ) → Sound IsByte k m → Completes f k m
   -- the body has a byte or more
-  pub body-room : T (known f) → bodyStart f + bodyEnd f < shortest f
+  pub body-space : T (known f) → bodyStart f + bodyEnd f < shortest f
   pub in-order : shortest f ≤ longest f
   -- it is no longer than the longest of all formats, which a reader holds but for a byte
   pub most : longest f ≤ 276

@@ -50,7 +50,7 @@ scan-length f xs = from-length f 0 0 xs (length xs) (omega arith) (lawful f .sou
 -- The longest shape is one byte longer than the most that can be pending.
 pub longest-pending : (f : Format) → T (known f) → longest f ≡ suc (pendingBound f)
 unfolding longest pendingBound
-longest-pending f h = omega (arith, lawful f .body-room h, lawful f .in-order)
+longest-pending f h = omega (arith, lawful f .body-space h, lawful f .in-order)
 
 -- An empty string or a proper start of a shape has at most so many bytes as can be pending.
 pub start-bound : (f : Format) (xs : List ℕ) → scan f xs ≡ Partial → length xs ≤ pendingBound f

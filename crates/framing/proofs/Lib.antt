@@ -5,9 +5,10 @@ pub mod FormatLaws
 pub mod FoundLaws
 pub mod FrameLaws
 pub mod HeadLaws
-pub mod IdleLaws
+pub mod HexLaws
+pub mod FindStartLaws
 pub mod Lawful
-pub mod LeadLaws
+pub mod FrameRunLaws
 pub mod Length
 pub mod LineLaws
 pub mod MglLaws

@@ -12,7 +12,7 @@ use borrow.Author.Tests.{ltb-true, ltb-false, eqb-true, eqb-false, eq-eqb, ne-eq
 use Rattle.framing.specs.declared.Reason.the-variants.{HeaderByte}
 use Rattle.framing.specs.declared.Scanned.the-variants.{Whole, Partial, Broken}
 use Rattle.framing.specs.Rules.{more}
-use Rattle.framing.specs.Mgl.{lengthOf, mglNext}
+use Rattle.framing.specs.Mgl.{lengthFromByte, mglNext}
 use Rattle.framing.specs.Format.{mgl, known, first, shortest, longest, pendingBound, bodyStart, bodyEnd, next}
 use Rattle.framing.specs.Shape.{scanFrom}
 use Rattle.framing.specs.Meaning.{IsByte}
@@ -31,7 +31,7 @@ mgl-starts = record { first = λ m x. refl; second = λ m x. refl }
 
 -- ---- MGL: the length and its complement
 
-pub length-itself : (l : ℕ) → (l ≡ 0 → ⊥) → lengthOf l ≡ l
+pub length-itself : (l : ℕ) → (l ≡ 0 → ⊥) → lengthFromByte l ≡ l
 length-itself zero h = absurd (h refl)
 length-itself (suc l) h = refl
 
@@ -51,7 +51,7 @@ module _ (s : List ℕ) where
   unfolding next mglNext
   mgl-broken l h = third (omega arith) ∙ scan-bad mgl 3 (getD s 2 0) s (omega arith) (rw (ne-eqb (getD s 2 0 + getD s 3 0) 255 h))
 
-  pub mgl-whole : 4 ≤ length s → getD s 2 0 + getD s 3 0 ≡ 255 → (m : ℕ) → lengthOf (getD s 2 0) + 20 ≡ m
+  pub mgl-whole : 4 ≤ length s → getD s 2 0 + getD s 3 0 ≡ 255 → (m : ℕ) → lengthFromByte (getD s 2 0) + 20 ≡ m
       → scanFrom mgl 2 0 (drop 2 s) ≡ cond (leb m (length s)) (Whole m) Partial
   unfolding next mglNext
   mgl-whole l h m e =
@@ -61,7 +61,7 @@ module _ (s : List ℕ) where
 
 -- ---- what is owed
 
-mgl-length : (m : ℕ) → m ≤ 255 → Below 21 276 4 (lengthOf m + 20)
+mgl-length : (m : ℕ) → m ≤ 255 → Below 21 276 4 (lengthFromByte m + 20)
 mgl-length zero h = omega arith
 mgl-length (suc m) h = omega arith
 
@@ -77,8 +77,8 @@ mgl-after P (suc (suc (suc (suc k)))) m b p h = upTo-after 21 276 (suc (suc (suc
 mgl-fourth : (m : ℕ) → IsByte m → Completes mgl 3 m
 unfolding next mglNext
 mgl-fourth m h =
-    one-more (255 - m) (lengthOf m + 20) (omega arith) (rw (eq-eqb (m + (255 - m)) 255 (omega arith)))
-    (the-missing mgl 4 mgl-counts 4 (lengthOf m + 20) (omega arith) (omega arith))
+    one-more (255 - m) (lengthFromByte m + 20) (omega arith) (rw (eq-eqb (m + (255 - m)) 255 (omega arith)))
+    (the-missing mgl 4 mgl-counts 4 (lengthFromByte m + 20) (omega arith) (omega arith))
 
 mgl-third : (m : ℕ) → Completes mgl 2 m
 unfolding next mglNext
@@ -95,17 +95,17 @@ mgl-lawful =
       sound-next = mgl-after;
       sound-bound = λ P k m h. counted-bound P 21 275 k m (omega arith) h;
       completes = λ t k m h. head-completes mgl-starts mgl-counts (omega arith) (omega arith) mgl-third IsByte 21 276 mgl-fourth k m h;
-      body-room = λ t. omega arith;
+      body-space = λ t. omega arith;
       in-order = omega arith;
       most = omega arith;
     }
 
 -- what the length byte tells
 pub told : (s : List ℕ) (n : ℕ) → n ≡ toldLength s
-    → ((n ≡ 0) × (getD s 2 0 + getD s 3 0 ≡ 255 → ⊥)) ⊎ ((getD s 2 0 + getD s 3 0 ≡ 255) × (lengthOf (getD s 2 0) + 20 ≡ n))
+    → ((n ≡ 0) × (getD s 2 0 + getD s 3 0 ≡ 255 → ⊥)) ⊎ ((getD s 2 0 + getD s 3 0 ≡ 255) × (lengthFromByte (getD s 2 0) + 20 ≡ n))
 told s n e = go (eqb (getD s 2 0 + getD s 3 0) 255) refl e
   where
-    go : (b : Bool) → eqb (getD s 2 0 + getD s 3 0) 255 ≡ b → n ≡ cond b (lengthOf (getD s 2 0) + 20) 0
-        → ((n ≡ 0) × (getD s 2 0 + getD s 3 0 ≡ 255 → ⊥)) ⊎ ((getD s 2 0 + getD s 3 0 ≡ 255) × (lengthOf (getD s 2 0) + 20 ≡ n))
+    go : (b : Bool) → eqb (getD s 2 0 + getD s 3 0) 255 ≡ b → n ≡ cond b (lengthFromByte (getD s 2 0) + 20) 0
+        → ((n ≡ 0) × (getD s 2 0 + getD s 3 0 ≡ 255 → ⊥)) ⊎ ((getD s 2 0 + getD s 3 0 ≡ 255) × (lengthFromByte (getD s 2 0) + 20 ≡ n))
     go true t k = inr (eqb-true (getD s 2 0 + getD s 3 0) 255 t, sym k)
     go false t k = inl (k, eqb-false (getD s 2 0 + getD s 3 0) 255 t)

@@ -148,7 +148,7 @@ nmea-lawful =
       sound-next = λ P k m b p h. nmea-after k m b h;
       sound-bound = λ P. sentence-bound;
       completes = λ t. nmea-completes;
-      body-room = λ t. omega arith;
+      body-space = λ t. omega arith;
       in-order = omega arith;
       most = omega arith;
     }

@@ -48,7 +48,7 @@ onflight-lawful =
       sound-next = λ P k m b p h. onflight-after k m b h;
       sound-bound = λ P k m h. counted-bound (λ j. Unit {0}) 158 157 k m (omega arith) h;
       completes = λ t k m h. head-completes onflight-starts onflight-counts (omega arith) (omega arith) onflight-third (λ j. Unit {0}) 158 158 (λ j u. onflight-fourth j) k m h;
-      body-room = λ t. omega arith;
+      body-space = λ t. omega arith;
       in-order = omega arith;
       most = omega arith;
     }

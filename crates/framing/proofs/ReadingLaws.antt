@@ -1,4 +1,4 @@
--- Laws of the two readings over every format: their equation, how they go on when bytes follow, what is pending, and their numbers.
+-- Laws of the two readings over every format: their equation, how they go on when bytes follow, what is pending, their counts.
 -- Assumes nothing.
 use Prim.Native.Nat.{ℕ, zero, suc, _+_, _≤_, _<_}
 use mathlib.Core.Path.{_≡_, refl, sym, ap, _∙_, subst}
@@ -163,7 +163,7 @@ frames-are c f =
     onStart ongoing x xs e ih = rw (read-at ongoing f x xs e) tt
     onStart closing x xs e ih = rw (read-at closing f x xs e) ih
 
--- ---- the numbers
+-- ---- the counts
 
 pub total-append : (w : Event → ℕ) (es ds : List Event) → total w (es ++ ds) ≡ total w es + total w ds
 total-append w [] ds = omega arith

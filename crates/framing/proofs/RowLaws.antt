@@ -147,7 +147,7 @@ pub record Tested (s : List ℕ) (p m i : ℕ) : Type 0 where
   pub last : Permitted m (m + i) s
 
 -- what the first i columns came to
-pub record Walked (s : List ℕ) (w p m refused xor commas i : ℕ) : Type 0 where
+pub record ColumnsRead (s : List ℕ) (w p m refused xor commas i : ℕ) : Type 0 where
   pub within : i ≤ w
   pub few : refused ≤ i + i + i
   pub tested : refused ≡ 0 → Tested s p m i
@@ -155,9 +155,9 @@ pub record Walked (s : List ℕ) (w p m refused xor commas i : ℕ) : Type 0 whe
   pub counted : commas ≡ sumTo _+_ (threeOf _+_ comma s w m) i
   pub small : commas ≤ i + i + i
 
-pub walk-start : (s : List ℕ) (w p m : ℕ) → Walked s w p m 0 0 0 0
+pub columns-start : (s : List ℕ) (w p m : ℕ) → ColumnsRead s w p m 0 0 0 0
 unfolding sumTo
-walk-start s w p m = record {
+columns-start s w p m = record {
   within = omega arith;
   few = omega arith;
   tested = λ e. record { first = λ j l g. absurd (omega arith); second = λ j l g. absurd (omega arith); last = λ j l g. absurd (omega arith) };
@@ -169,15 +169,15 @@ walk-start s w p m = record {
 next-one : (s : List ℕ) (a i : ℕ) → Permitted a (a + i) s → permitted (getD s (a + i) 0) ≡ true → Permitted a (a + (i + 1)) s
 next-one s a i h p j l g = both permitted s a (a + i) (a + i + 1) h (one s (a + i) p) j l (omega arith)
 
-module _ {s : List ℕ} {w p m f x k i : ℕ} (c : Walked s w p m f x k i) (h : w ≤ 32) (l : m ≤ w + w) (e : p ≡ min w m) where
+module _ {s : List ℕ} {w p m f x k i : ℕ} (c : ColumnsRead s w p m f x k i) (h : w ≤ 32) (l : m ≤ w + w) (e : p ≡ min w m) where
   -- a column: r bytes of it are refused, a and b count in its first two rows, and n are commas
-  pub walk-more : i < w → {r a b n : ℕ}
+  pub columns-more : i < w → {r a b n : ℕ}
       → (r ≤ 3) × (r ≡ 0 → (permitted (getD s i 0) ≡ true) × (permitted (getD s (p + i) 0) ≡ true) × (permitted (getD s (m + i) 0) ≡ true))
       → a ≡ masked s (128 - m) i → b ≡ cond (ltb ((i + w + (128 - m)) % 256) 128) (getD s (p + i) 0) 0
       → (n ≤ 3) × (n ≡ comma a + comma b + comma (getD s (m + i) 0))
-      → Walked s w p m (f + r) (bitXor x (bitXor (bitXor a b) (getD s (m + i) 0))) (k + n) (i + 1)
+      → ColumnsRead s w p m (f + r) (bitXor x (bitXor (bitXor a b) (getD s (m + i) 0))) (k + n) (i + 1)
   unfolding sumTo
-  walk-more d {r} {a} {b} {n} t ea eb en =
+  columns-more d {r} {a} {b} {n} t ea eb en =
       let eb₁ : b ≡ masked s (128 - m) (i + w) = eb ∙ second-is s w m p i d h l e in
       record {
         within = omega arith;
@@ -199,19 +199,19 @@ module _ {s : List ℕ} {w p m f x k i : ℕ} (c : Walked s w p m f x k i) (h : 
     at-end : i ≡ w
     at-end = omega (arith, c .within, d)
 
-    pub walk-body : f ≡ 0 → Permitted 0 (length s) s
-    walk-body z =
+    pub columns-body : f ≡ 0 → Permitted 0 (length s) s
+    columns-body z =
         let t = c .tested z in
         let u = at-end in
         let y = both permitted s 0 i (p + i) (t .first) (λ j a b. t .second j (omega (arith, e, u, a)) b) in
         both permitted s 0 (p + i) (length s) y (λ j a b. t .last j (omega (arith, e, u, l, a)) (omega (arith, u, n, b)))
 
-    pub walk-xor : x ≡ xorOf s
+    pub columns-xor : x ≡ xorOf s
     unfolding xorOf
-    walk-xor = c .xored ∙ ap (sumTo bitXor (threeOf bitXor (λ b. b) s w m)) at-end ∙ three-rows xor-sums (λ b. b) s w m refl h l n
+    columns-xor = c .xored ∙ ap (sumTo bitXor (threeOf bitXor (λ b. b) s w m)) at-end ∙ three-rows xor-sums (λ b. b) s w m refl h l n
 
-    pub walk-commas : k ≡ commaCount s
-    walk-commas =
+    pub columns-commas : k ≡ commaCount s
+    columns-commas =
         c .counted
         ∙ ap (sumTo _+_ (threeOf _+_ comma s w m)) at-end
         ∙ three-rows add-sums comma s w m refl h l n

@@ -2,8 +2,8 @@
 pub mod Format
 pub mod Frame
 pub mod Growth
-pub mod Idle
-pub mod Leading
+pub mod FindStart
+pub mod FrameRun
 pub mod Meaning
 pub mod Mgl
 pub mod Nmea

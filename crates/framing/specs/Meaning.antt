@@ -1,4 +1,4 @@
--- What the definitions of this crate mean. With `ShapesExactly` and `FramesExactly` (crates/roundtrips/specs/Exactly.antt), which say what
+-- What the definitions of this crate mean. With `ShapesExactly` and `FramesExactly` (crates/roundtrip_theorems/specs/Exactly.antt), which say what
 -- shapes and frames are, these statements say all that `scan`, `front` and `read` do with bytes of a known format, but for the reasons of
 -- skipped bytes: nobody has to follow their clauses. Each is proved once over the format, in the file of proofs/ that is named.
 use Prim.Native.Nat.{ℕ, _+_, _≤_, _<_}
@@ -12,7 +12,7 @@ use Rattle.framing.specs.declared.Found.the-variants.{Frame, Start}
 use Rattle.framing.specs.Format.{Format, known, first, shortest, longest, good}
 use Rattle.framing.specs.Shape.{scan}
 use Rattle.framing.specs.Frame.{front, IsFrame}
-use Rattle.framing.specs.Leading.{frameLength}
+use Rattle.framing.specs.FrameRun.{frameLength}
 use Rattle.framing.specs.Reading.{Mode, closing, stop, step, read, frames}
 
 -- ---- shapes and frames
@@ -69,7 +69,7 @@ pub record LayoutHolds (f : Format) (xs : List ℕ) : Type 0 where
 abbrev pub LayoutMeans : Type 0
 LayoutMeans = (f : Format) (xs : List ℕ) → T (known f) → IsShape f xs → LayoutHolds f xs
 
--- 0 is the length of no frame: `front` finds a frame of n bytes exactly if the length is n and not 0. (LeadLaws)
+-- 0 is the length of no frame: `front` finds a frame of n bytes exactly if the length is n and not 0. (FrameRunLaws)
 abbrev pub LengthTells : Type 0
 LengthTells = (f : Format) (n : ℕ) (xs : List ℕ) → (front f xs ≡ Frame n) ↔ ((frameLength (front f xs) ≡ n) × (0 < n))
 

@@ -10,16 +10,16 @@ use Rattle.framing.specs.declared.Reason.the-variants.{StartByte, Second
 use Rattle.framing.specs.Rules.{Next, more, Rules, rules, must, upTo, part}
 
 -- L = 0 stands for 256
-abbrev pub lengthOf : ℕ → ℕ
-lengthOf zero = 256
-lengthOf (suc l) = suc l
+abbrev pub lengthFromByte : ℕ → ℕ
+lengthFromByte zero = 256
+lengthFromByte (suc l) = suc l
 
 -- Kept: L, then the number of all bytes.
 unfoldable pub mglNext : ℕ → ℕ → ℕ → Next
 mglNext zero m b = must (eqb b 0x05) (more 0) StartByte
 mglNext (suc zero) m b = must (eqb b 0x02) (more 0) SecondByte
 mglNext (suc (suc zero)) m b = more b
-mglNext (suc (suc (suc zero))) m b = must (eqb (m + b) 255) (more (lengthOf m + 20)) HeaderByte
+mglNext (suc (suc (suc zero))) m b = must (eqb (m + b) 255) (more (lengthFromByte m + 20)) HeaderByte
 mglNext (suc (suc (suc (suc k)))) m b = upTo m (suc (suc (suc (suc k))))
 
 -- CRC-32 from the type to the last body byte, low byte first in the last four

@@ -12,7 +12,7 @@ use Rattle.framing.specs.declared.Scanned.{Scanned}
 use Rattle.framing.specs.declared.Scanned.the-variants.{Whole, Partial, Broken}
 use Rattle.framing.specs.declared.Growth.{Growth}
 use Rattle.framing.specs.declared.Growth.the-variants.{Grows, Waits, Unsaid}
-use Rattle.framing.specs.Mgl.{lengthOf}
+use Rattle.framing.specs.Mgl.{lengthFromByte}
 use Rattle.framing.specs.Nmea.{permitted, hexDigit, hexValue, commaCount}
 use Rattle.framing.specs.Format.{Format}
 use Rattle.framing.specs.Shape.{scan}
@@ -76,13 +76,13 @@ abbrev pub differs : ℕ → ℕ → Bool
 differs a b = not (eqb b a)
 
 -- how many bytes stand before the first a
-unfoldable pub before : ℕ → List ℕ → ℕ
-before a [] = 0
-before a (x ∷ xs) = cond (eqb x a) 0 (suc (before a xs))
+unfoldable pub findByte : ℕ → List ℕ → ℕ
+findByte a [] = 0
+findByte a (x ∷ xs) = cond (eqb x a) 0 (suc (findByte a xs))
 
 -- how many bytes an MGL frame has by its length byte: 0 where the complement is wrong
 abbrev pub toldLength : List ℕ → ℕ
-toldLength s = cond (eqb (getD s 2 0 + getD s 3 0) 255) (lengthOf (getD s 2 0) + 20) 0
+toldLength s = cond (eqb (getD s 2 0 + getD s 3 0) 255) (lengthFromByte (getD s 2 0) + 20) 0
 
 -- With fewer than m bytes in all, s and whatever follows it are a proper start of a shape: 0 promises nothing.
 abbrev pub Needs : Format → List ℕ → ℕ → Type 0

@@ -52,7 +52,7 @@ read c f xs = readSteps (length xs) c f xs
 abbrev pub extend : Reading → Reading → Reading
 extend r s = record { events = r .events ++ s .events; rest = s .rest }
 
--- ---- the frames and the numbers of a reading
+-- ---- the frames and the counts of a reading
 
 abbrev pub frames : List Event → List (List ℕ)
 frames [] = []

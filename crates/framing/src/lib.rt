@@ -1,12 +1,12 @@
 // What a byte string begins with: a frame, a proper start of one, or neither.
-mod masked;
+mod find;
+pub mod frame_run;
 pub mod mgl;
 pub mod nmea;
 pub mod onflight;
 mod rows;
-pub mod run;
-mod search;
 mod shape;
+mod xor_padded;
 
 ghost use mathlib.Core.Path.{_≡_};
 ghost use Prim.Native.Nat.{_≤_};
@@ -14,7 +14,7 @@ ghost use lib.ListN.{length, take};
 ghost use Rattle.framing.specs.Rules.{noRules};
 ghost use Rattle.framing.specs.Format.{formatOf, layoutOf, known};
 ghost use Rattle.framing.specs.Frame.{front};
-ghost use Rattle.framing.specs.Idle.{idle};
+ghost use Rattle.framing.specs.FindStart.{findStart};
 ghost use Rattle.framing.specs.Growth.{Grown};
 
 // Why the bytes from a position on are no frame, by the earliest byte at which they stop being the start of a shape.
@@ -73,7 +73,7 @@ pub enum Growth {
     Unsaid,
 }
 
-// ---- The formats, each in a file of its own. `layout_of`, `front_within` and `idle` have a row for each, `growth_of` may have one, and
+// ---- The formats, each in a file of its own. `layout_of`, `front_within` and `find_start` have a row for each, `growth_of` may have one, and
 // no other code of this crate matches on the format.
 
 fn no_layout() -> Layout
@@ -121,13 +121,13 @@ pub fn front(format: u32, s: &[u8]) -> Found
 }
 
 // How many bytes from the start on begin no shape of a format: a reading skips them one by one.
-pub fn idle(format: u32, s: &[u8]) -> usize
-    ensures { λ r. ⌜ r ≡ idle (formatOf format) (now (s .entry)) ⌝ }
+pub fn find_start(format: u32, s: &[u8]) -> usize
+    ensures { λ r. ⌜ r ≡ findStart (formatOf format) (now (s .entry)) ⌝ }
 {
     match format {
-        1 => search::bytes_before(s, mgl::FIRST),
-        2 => search::bytes_before(s, onflight::FIRST),
-        3 => search::bytes_before(s, nmea::FIRST),
+        1 => find::find_byte(s, mgl::FIRST),
+        2 => find::find_byte(s, onflight::FIRST),
+        3 => find::find_byte(s, nmea::FIRST),
         _ => s.len(),
     }
 }

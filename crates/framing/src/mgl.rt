@@ -66,19 +66,19 @@ fn scan(s: &[u8]) -> Scanned
 }
 
 // Whether the checksum of a whole MGL shape is right.
-fn is_good(s: &[u8]) -> bool
+fn checksum_ok(s: &[u8]) -> bool
     requires { ⌜ shortest mgl ≤ length (now s) ⌝ }
     ensures { λ r. ⌜ r ≡ good mgl (now (s .entry)) ⌝ }
 {
     let e = s.len() - 4;
-    slicing::crc32(&s[4..e]) == numbers::u32_at(s, e)
+    checksum_slicing::crc32(&s[4..e]) == numbers::u32_at(s, e)
 }
 
 pub(crate) fn front(s: &[u8]) -> Found
     ensures { λ r. ⌜ r ≡ front mgl (now (s .entry)) ⌝ }
 {
     match scan(s) {
-        Scanned::Whole(n) => shape::judged(is_good(&s[..n]), n),
+        Scanned::Whole(n) => shape::judged(checksum_ok(&s[..n]), n),
         Scanned::Partial => Found::Start,
         Scanned::Broken(r) => Found::Neither(r),
     }

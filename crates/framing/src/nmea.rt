@@ -4,13 +4,13 @@ use super::Growth;
 use super::Layout;
 use super::Reason;
 use super::Scanned;
-use super::masked;
 use super::rows;
 use super::shape;
+use super::xor_padded;
 ghost use mathlib.Core.Path.{_≡_};
 ghost use mathlib.Core.Bool.{true, cond};
-ghost use Prim.Native.Nat.{suc, _+_, _-_, _≤_, _<_};
-ghost use lib.Dec.{ltb};
+ghost use Prim.Native.Nat.{suc, _+_, _-_, _*_, _≤_, _<_};
+ghost use lib.Dec.{ltb, eqb};
 ghost use lib.ListN.{length, take, drop};
 ghost use Rattle.framing.specs.declared.Scanned.the-variants.{Partial, Broken};
 ghost use Rattle.framing.specs.declared.Found.the-variants.{Frame};
@@ -127,7 +127,7 @@ fn block(s: &[u8], from: usize) -> u8
     let mut n: u8 = 32;
     let mut i: u8 = 0;
     while i < 32 {
-        n = shape::min_u8(n, refused_at(i, s[from + i as usize]));
+        n = numbers::min_u8(n, refused_at(i, s[from + i as usize]));
         i += 1;
     }
     n
@@ -153,7 +153,7 @@ fn blocks(s: &[u8]) -> usize
     let last = s.len() - 32;
     let mut k: usize = 33;
     while k < s.len() && k < 77 {
-        let from = shape::min_usize(k, last);
+        let from = numbers::min_usize(k, last);
         let n = block(s, from) as usize;
         if n < 32 {
             return from + n;
@@ -228,36 +228,39 @@ fn hex_value(b: u8) -> u8
     b - base
 }
 
+// Whether two digits write a checksum.
+fn digits_write(high: u8, low: u8, x: u8) -> bool
+    ensures { λ r. ⌜ r ≡ eqb x (hexValue high * 16 + hexValue low) ⌝ }
+{
+    x as u32 == hex_value(high) as u32 * 16 + hex_value(low) as u32
+}
+
 // Whether the checksum of a sentence is right.
-fn good_alone(s: &[u8]) -> bool
+fn checksum_ok_alone(s: &[u8]) -> bool
     requires { ⌜ shortest nmea ≤ length (now s) ⌝ }
     ensures { λ r. ⌜ r ≡ good nmea (now (s .entry)) ⌝ }
 {
     let e = s.len() - 5;
-    let high = hex_value(s[e + 1]) as u32;
-    let low = hex_value(s[e + 2]) as u32;
-    checksum::xor8(&s[1..e]) as u32 == high * 16 + low
+    digits_write(s[e + 1], s[e + 2], checksum::xor8(&s[1..e]))
 }
 
 // Whether the checksum of the sentence of n bytes at the start of s is right, where s has more than 80 bytes.
-fn good_in_line(s: &[u8], n: usize) -> bool
+fn checksum_ok_in_line(s: &[u8], n: usize) -> bool
     requires { ⌜ (shortest nmea ≤ n) × (n ≤ suc (pendingBound nmea)) × (n ≤ length (now s)) × (80 < length (now s)) ⌝ }
     ensures { λ r. ⌜ r ≡ good nmea (take n (now (s .entry))) ⌝ }
 {
-    let high = hex_value(s[n - 4]) as u32;
-    let low = hex_value(s[n - 3]) as u32;
-    masked::xor_first(&s[1..], n - 6) as u32 == high * 16 + low
+    digits_write(s[n - 4], s[n - 3], xor_padded::xor_first(&s[1..], n - 6))
 }
 
 // Whether the checksum of the sentence of n bytes at the start of s is right.
-fn is_good(s: &[u8], n: usize) -> bool
+fn checksum_ok(s: &[u8], n: usize) -> bool
     requires { ⌜ (shortest nmea ≤ n) × (n ≤ suc (pendingBound nmea)) × (n ≤ length (now s)) ⌝ }
     ensures { λ r. ⌜ r ≡ good nmea (take n (now (s .entry))) ⌝ }
 {
     if 80 < s.len() {
-        return good_in_line(s, n);
+        return checksum_ok_in_line(s, n);
     }
-    good_alone(&s[..n])
+    checksum_ok_alone(&s[..n])
 }
 
 // What the first `end` bytes begin with.
@@ -266,7 +269,7 @@ pub(crate) fn front(s: &[u8], end: usize) -> Found
     ensures { λ r. ⌜ r ≡ front nmea (take end (now (s .entry))) ⌝ }
 {
     match scan(s, end) {
-        Scanned::Whole(n) => shape::judged(is_good(s, n), n),
+        Scanned::Whole(n) => shape::judged(checksum_ok(s, n), n),
         Scanned::Partial => Found::Start,
         Scanned::Broken(r) => Found::Neither(r),
     }
@@ -327,7 +330,7 @@ pub(crate) fn growth_of(s: &[u8], end: usize, bytes: &[u8]) -> Growth
     if !is_body(s, end) {
         return Growth::Unsaid;
     }
-    if shape::min_usize(FEW, 77 - end) < bytes.len() {
+    if numbers::min_usize(FEW, 77 - end) < bytes.len() {
         return Growth::Waits;
     }
     if are_permitted(bytes) {
@@ -338,15 +341,6 @@ pub(crate) fn growth_of(s: &[u8], end: usize, bytes: &[u8]) -> Growth
 
 // ---- a sentence by itself
 
-// The digit that writes a number below 16.
-fn digit_of(n: u8) -> u8
-    requires { ⌜ n < 16 ⌝ }
-    ensures { λ r. ⌜ (hexDigit r ≡ true) × (hexValue r ≡ n) ⌝ }
-{
-    let base = if n < 10 { b'0' } else { 0x37 };
-    n + base
-}
-
 // True only if five bytes end a sentence whose checksum is x.
 fn is_end(s: &[u8], at: usize, x: u8) -> bool
     requires { ⌜ at + 5 ≤ length (now s) ⌝ }
@@ -355,10 +349,10 @@ fn is_end(s: &[u8], at: usize, x: u8) -> bool
     if s[at] != b'*' {
         return false;
     }
-    if s[at + 1] != digit_of(x / 16) {
+    if s[at + 1] != numbers::hex_digit(x / 16) {
         return false;
     }
-    if s[at + 2] != digit_of(x % 16) {
+    if s[at + 2] != numbers::hex_digit(x) {
         return false;
     }
     if s[at + 3] != 0x0D {

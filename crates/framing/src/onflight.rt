@@ -56,7 +56,7 @@ fn scan(s: &[u8]) -> Scanned
 }
 
 // Whether the checksum of a whole OnFlight shape is right.
-fn is_good(s: &[u8]) -> bool
+fn checksum_ok(s: &[u8]) -> bool
     requires { ⌜ shortest onflight ≤ length (now s) ⌝ }
     ensures { λ r. ⌜ r ≡ good onflight (now (s .entry)) ⌝ }
 {
@@ -72,7 +72,7 @@ pub(crate) fn front(s: &[u8]) -> Found
     ensures { λ r. ⌜ r ≡ front onflight (now (s .entry)) ⌝ }
 {
     match scan(s) {
-        Scanned::Whole(n) => shape::judged(is_good(&s[..n]), n),
+        Scanned::Whole(n) => shape::judged(checksum_ok(&s[..n]), n),
         Scanned::Partial => Found::Start,
         Scanned::Broken(r) => Found::Neither(r),
     }

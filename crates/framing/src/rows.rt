@@ -1,6 +1,5 @@
 // One pass over the body of a sentence, for speed: whether its bytes may be in a body, their exclusive or, and how many are commas.
-use super::masked;
-use super::shape;
+use super::xor_padded;
 ghost use mathlib.Core.Path.{_≡_};
 ghost use mathlib.Core.Bool.{true, cond};
 ghost use Prim.Native.Nat.{_+_, _≤_};
@@ -67,7 +66,7 @@ fn rows(s: &[u8], w: u8) -> Passed
 {
     let last = s.len() - w as usize;
     let over = (128 - last) as u8;
-    let second = shape::min_usize(w as usize, last);
+    let second = numbers::min_usize(w as usize, last);
     let mut refused: u8 = 0;
     let mut xor: u8 = 0;
     let mut commas: u8 = 0;
@@ -77,8 +76,8 @@ fn rows(s: &[u8], w: u8) -> Passed
         let a = s[at];
         let b = s[second + at];
         let c = s[last + at];
-        let x = masked::kept(i, over, a);
-        let y = masked::kept(i + w, over, b);
+        let x = xor_padded::kept(i, over, a);
+        let y = xor_padded::kept(i + w, over, b);
         refused += refused_of(a, b, c);
         xor = xor ^ (x ^ y ^ c);
         commas += commas_of(x, y, c);

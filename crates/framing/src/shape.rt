@@ -5,7 +5,6 @@ use super::Reason;
 use super::Scanned;
 ghost use mathlib.Core.Path.{_≡_};
 ghost use mathlib.Core.Bool.{cond};
-ghost use Prim.Native.Nat.{min, _+_};
 ghost use lib.Dec.{leb, eqb};
 ghost use Rattle.framing.specs.declared.Scanned.the-variants.{Whole, Partial};
 ghost use Rattle.framing.specs.declared.Found.the-variants.{Frame, Start, Neither};
@@ -39,24 +38,6 @@ pub(crate) fn counted(n: usize, m: usize) -> Scanned
         return Scanned::Whole(m);
     }
     Scanned::Partial
-}
-
-pub(crate) fn min_usize(a: usize, b: usize) -> usize
-    ensures { λ r. ⌜ r ≡ min a b ⌝ }
-{
-    if a < b {
-        return a;
-    }
-    b
-}
-
-pub(crate) fn min_u8(a: u8, b: u8) -> u8
-    ensures { λ r. ⌜ r ≡ min a b ⌝ }
-{
-    if a < b {
-        return a;
-    }
-    b
 }
 
 // What n bytes begin with in a format that has no shape.

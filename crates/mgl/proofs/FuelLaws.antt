@@ -1,4 +1,4 @@
--- Laws of the fuel readings: the body's first number as a count, and how a tank's reading goes on from the count's.
+-- Laws of the fuel functions: the body's first number as a count, and how the answer for a tank goes on from that for the count.
 -- Assumes nothing.
 use Prim.Native.Nat.{ℕ, _^_, _<_, _≤_}
 use mathlib.Core.Path.{_≡_, refl, sym, ap, _∙_}
@@ -13,17 +13,16 @@ use mir.Syntax.{w32}
 use Rattle.numbers.specs.Low.{low, signed}
 use Rattle.numbers.proofs.Signed.{small, below-zero}
 use Rattle.framing.specs.Format.{mgl, longest}
-use Rattle.content.specs.Answer.{Answer, given, refused, unless, refusalNumber}
+use Rattle.answer.specs.Answer.{Answer, given, refused, unless, refusalNumber}
 use Rattle.content.specs.Body.{isFrame}
-use Rattle.content.specs.declared.Refusal.{Refusal}
-use Rattle.content.specs.declared.Refusal.the-variants.{NotOneFrame, OtherMessage, OutOfForm}
-use Rattle.content.specs.declared.NumberReading.{NumberReading}
-use Rattle.content.specs.declared.NumberReading.the-variants.{Read, Refused}
+use Rattle.answer.specs.declared.Refusal.{Refusal}
+use Rattle.content.specs.declared.NumberResult.{NumberResult}
+use Rattle.content.specs.declared.NumberResult.the-variants.{Read, Refused}
 use Rattle.content.specs.Shared.{numberAnswer}
-use Rattle.content.proofs.AnswerLaws.{after, fails}
+use Rattle.answer.proofs.AnswerLaws.{after, fails, not-done}
 use Rattle.content.proofs.BodyLaws.{frame-short}
 use Rattle.mgl.specs.declared.fuel.Tank.{Tank}
-use Rattle.mgl.specs.Fuel.{isFuel, tanks, equals, counted, countOf, tankAt, noTank, tankOf}
+use Rattle.mgl.specs.Fuel.{isFuel, tanks, equals, countAgrees, tankCountOf, tankAt, noTank, tankOf}
 
 -- a number below half is the signed number of n exactly where it is n
 same-number : (n k : ℕ) → k < 2 ^ 31 → equals (signed w32 n) k ≡ eqb n k
@@ -35,17 +34,17 @@ same-number n k h = go (decLt n (2 ^ 31))
 
 -- n is the body's first number; a frame is short, so the sign does not matter
 module _ (s : List ℕ) {n : ℕ} (h : isFrame mgl s ≡ true) (e : n ≡ low 4 s 8) where
-  count-test : counted s ≡ eqb n (tanks s)
-  unfolding counted tanks longest
+  count-test : countAgrees s ≡ eqb n (tanks s)
+  unfolding countAgrees tanks longest
   count-test = rw (← e) (same-number n (tanks s) (omega (arith, frame-short mgl s h)))
 
-  pub count-right : n ≡ tanks s → counted s ≡ true
+  pub count-right : n ≡ tanks s → countAgrees s ≡ true
   count-right d = count-test ∙ eq-eqb n (tanks s) d
 
-  pub count-wrong : (n ≡ tanks s → ⊥) → counted s ≡ false
+  pub count-wrong : (n ≡ tanks s → ⊥) → countAgrees s ≡ false
   count-wrong d = count-test ∙ ne-eqb n (tanks s) d
 
--- where the count's reading is done the tank's goes on with the count, and else both refuse alike
+-- where the count is not refused the tank's answer goes on with it, and else both refuse alike
 abbrev onward : Answer ℕ → (ℕ → Answer Tank) → Answer Tank
 onward a f = cond (eqb (a .number) 0) (f (a .value)) (refused noTank (a .number))
 
@@ -61,15 +60,13 @@ module _ (s : List ℕ) (i : ℕ) where
   judged k = unless noTank (ltb i k) 9 (given (tankAt s i))
 
   refused-on : (r : Refusal) → refused noTank (refusalNumber r) ≡ onward (numberAnswer (Refused r)) judged
-  refused-on NotOneFrame = refl
-  refused-on OtherMessage = refl
-  refused-on OutOfForm = refl
+  refused-on r = rw (not-done r)
 
-  -- a is what the reading of the count answered
-  module _ (a : NumberReading) (e : numberAnswer a ≡ countOf s) where
+  -- a is what `read_count` answered
+  module _ (a : NumberResult) (e : numberAnswer a ≡ tankCountOf s) where
     goes-on : onward (numberAnswer a) judged ≡ tankOf s i
-    unfolding countOf tankOf
-    goes-on = rw e (same-tests (isFrame mgl s) (isFuel s) (counted s) (tanks s) judged)
+    unfolding tankCountOf tankOf
+    goes-on = rw e (same-tests (isFrame mgl s) (isFuel s) (countAgrees s) (tanks s) judged)
 
     pub tank-refused : {r : Refusal} → a ≡ Refused r → refused noTank (refusalNumber r) ≡ tankOf s i
     tank-refused {r} d = refused-on r ∙ (rw d at goes-on)

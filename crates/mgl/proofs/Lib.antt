@@ -1,2 +1,2 @@
--- Laws of the readings, and the proofs of the functions.
+-- Laws of the field functions, and their proofs.
 pub mod FuelLaws

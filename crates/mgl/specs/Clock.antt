@@ -5,7 +5,7 @@ use Rattle.framing.specs.Format.{mgl}
 use Rattle.calendar.specs.declared.DateTime.{DateTime}
 use Rattle.calendar.specs.declared.Clock.{Clock}
 use Rattle.calendar.specs.Clocks.{ClockValues, clockValues, binaryClockOf}
-use Rattle.content.specs.Answer.{Answer, given, unless}
+use Rattle.answer.specs.Answer.{Answer, given, unless}
 use Rattle.content.specs.Body.{isFrame}
 use Rattle.content.specs.Shared.{noClock}
 use Rattle.mgl.specs.Header.{bodyByte, isMessage}

@@ -8,11 +8,11 @@ use lib.ListN.{length, getD}
 use mir.Syntax.{w32}
 use Rattle.numbers.specs.Low.{signed}
 use Rattle.framing.specs.Format.{mgl}
-use Rattle.content.specs.Answer.{Answer, given, refused, unless, refusalNumber}
+use Rattle.answer.specs.Answer.{Answer, given, refused, unless, refusalNumber}
 use Rattle.content.specs.Body.{isFrame}
 use Rattle.mgl.specs.declared.fuel.Tank.{Tank}
-use Rattle.mgl.specs.declared.fuel.TankReading.{TankReading}
-use Rattle.mgl.specs.declared.fuel.TankReading.the-variants.{Read, Refused}
+use Rattle.mgl.specs.declared.fuel.TankResult.{TankResult}
+use Rattle.mgl.specs.declared.fuel.TankResult.the-variants.{Read, Refused}
 use Rattle.mgl.specs.Header.{bodyByte, bodyLow}
 
 -- type 11, version 1, and a body of 4 + 8k bytes, k from 1 to 32: 12 bytes of the frame are not the body's
@@ -31,14 +31,14 @@ equals (pos a) k = eqb a k
 equals (negsuc a) k = false
 
 -- the first number of the body is k
-unfoldable pub counted : List ℕ → Bool
-counted s = equals (signed w32 (bodyLow 4 s 0)) (tanks s)
+unfoldable pub countAgrees : List ℕ → Bool
+countAgrees s = equals (signed w32 (bodyLow 4 s 0)) (tanks s)
 
-unfoldable pub countOf : List ℕ → Answer ℕ
-countOf s =
+unfoldable pub tankCountOf : List ℕ → Answer ℕ
+tankCountOf s =
     unless 0 (isFrame mgl s) 7
     (unless 0 (isFuel s) 8
-    (unless 0 (counted s) 9
+    (unless 0 (countAgrees s) 9
     (given (tanks s))))
 
 -- tank i stands at 4 + 8i of the body: level, type, on, sensors
@@ -53,7 +53,7 @@ tankAt s i = record {
 abbrev pub noTank : Tank
 noTank = record { level = pos 0; kind = 0; on = 0; sensors = 0 }
 
-abbrev pub tankAnswer : TankReading → Answer Tank
+abbrev pub tankAnswer : TankResult → Answer Tank
 tankAnswer (Read t) = given t
 tankAnswer (Refused r) = refused noTank (refusalNumber r)
 
@@ -61,6 +61,6 @@ unfoldable pub tankOf : List ℕ → ℕ → Answer Tank
 tankOf s i =
     unless noTank (isFrame mgl s) 7
     (unless noTank (isFuel s) 8
-    (unless noTank (counted s) 9
+    (unless noTank (countAgrees s) 9
     (unless noTank (ltb i (tanks s)) 9
     (given (tankAt s i)))))

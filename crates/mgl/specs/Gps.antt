@@ -7,11 +7,11 @@ use lib.IntN.{pos}
 use mir.Syntax.{w16, w32}
 use Rattle.numbers.specs.Low.{signed}
 use Rattle.framing.specs.Format.{mgl}
-use Rattle.content.specs.Answer.{Answer, given, refused, unless, refusalNumber}
+use Rattle.answer.specs.Answer.{Answer, given, refused, unless, refusalNumber}
 use Rattle.content.specs.Body.{isFrame}
 use Rattle.mgl.specs.declared.gps.Gps.{Gps}
-use Rattle.mgl.specs.declared.gps.GpsReading.{GpsReading}
-use Rattle.mgl.specs.declared.gps.GpsReading.the-variants.{Read, Refused}
+use Rattle.mgl.specs.declared.gps.GpsResult.{GpsResult}
+use Rattle.mgl.specs.declared.gps.GpsResult.the-variants.{Read, Refused}
 use Rattle.mgl.specs.Header.{bodyByte, bodyLow, isMessage}
 
 -- the altitude is valid in modes 3 and 5 alone
@@ -69,7 +69,7 @@ noGps = record {
   «altitude_valid» = false;
 }
 
-abbrev pub gpsAnswer : GpsReading → Answer Gps
+abbrev pub gpsAnswer : GpsResult → Answer Gps
 gpsAnswer (Read g) = given g
 gpsAnswer (Refused r) = refused noGps (refusalNumber r)
 

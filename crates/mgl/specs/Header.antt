@@ -6,11 +6,11 @@ use lib.Dec.{eqb}
 use lib.ListN.{length, getD}
 use Rattle.numbers.specs.Low.{low}
 use Rattle.framing.specs.Format.{mgl}
-use Rattle.content.specs.Answer.{Answer, given, refused, unless, refusalNumber}
+use Rattle.answer.specs.Answer.{Answer, given, refused, unless, refusalNumber}
 use Rattle.content.specs.Body.{isFrame}
 use Rattle.mgl.specs.declared.Header.{Header}
-use Rattle.mgl.specs.declared.HeaderReading.{HeaderReading}
-use Rattle.mgl.specs.declared.HeaderReading.the-variants.{Read, Refused}
+use Rattle.mgl.specs.declared.HeaderResult.{HeaderResult}
+use Rattle.mgl.specs.declared.HeaderResult.the-variants.{Read, Refused}
 
 -- byte i of the body
 abbrev pub bodyByte : List ℕ → ℕ → ℕ
@@ -20,19 +20,19 @@ bodyByte s i = getD s (8 + i) 0
 abbrev pub bodyLow : ℕ → List ℕ → ℕ → ℕ
 bodyLow k s i = low k s (8 + i)
 
--- this type, version 1, and this many bytes in all
+-- this message type, version 1, and this many bytes in all
 unfoldable pub isMessage : ℕ → ℕ → List ℕ → Bool
-isMessage kind len s = eqb (getD s 4 0) kind && eqb (getD s 7 0) 1 && eqb (length s) len
+isMessage wanted len s = eqb (getD s 4 0) wanted && eqb (getD s 7 0) 1 && eqb (length s) len
 
 abbrev pub noHeader : Header
-noHeader = record { kind = 0; rate = 0; count = 0; version = 0 }
+noHeader = record { «message_type» = 0; rate = 0; count = 0; version = 0 }
 
-abbrev pub headerAnswer : HeaderReading → Answer Header
+abbrev pub headerAnswer : HeaderResult → Answer Header
 headerAnswer (Read h) = given h
 headerAnswer (Refused r) = refused noHeader (refusalNumber r)
 
--- type, rate, count, version
+-- message type, rate, count, version
 unfoldable pub headerOf : List ℕ → Answer Header
 headerOf s =
     unless noHeader (isFrame mgl s) 7
-    (given (record { kind = getD s 4 0; rate = getD s 5 0; count = getD s 6 0; version = getD s 7 0 }))
+    (given (record { «message_type» = getD s 4 0; rate = getD s 5 0; count = getD s 6 0; version = getD s 7 0 }))

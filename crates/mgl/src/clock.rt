@@ -1,19 +1,19 @@
 // The clock of the primary flight message: type 1, version 1, L = 24, so a frame of 44 bytes.
+use answer::Refusal;
 use calendar::DateTime;
-use content::ClockReading;
-use content::Refusal;
+use content::ClockResult;
 ghost use mathlib.Core.Path.{_≡_};
 ghost use Rattle.content.specs.Shared.{clockAnswer};
 ghost use Rattle.mgl.specs.Clock.{mglClockOf};
 
-pub fn read_clock(s: &[u8]) -> ClockReading
+pub fn read_clock(s: &[u8]) -> ClockResult
     ensures { λ r. ⌜ clockAnswer r ≡ mglClockOf (now (s .entry)) ⌝ }
 {
     if !content::is_frame(1, s) {
-        return ClockReading::Refused(Refusal::NotOneFrame);
+        return ClockResult::Refused(Refusal::NotOneFrame);
     }
     if !super::is_message(s, 1, 44) {
-        return ClockReading::Refused(Refusal::OtherMessage);
+        return ClockResult::Refused(Refusal::OtherMessage);
     }
     let t = DateTime {
         year: numbers::byte_at(s, 8, 29),
@@ -23,5 +23,5 @@ pub fn read_clock(s: &[u8]) -> ClockReading
         minute: numbers::byte_at(s, 8, 25),
         second: numbers::byte_at(s, 8, 26),
     };
-    ClockReading::Read(calendar::binary_clock(t, 2000, 99))
+    ClockResult::Read(calendar::binary_clock(t, 2000, 99))
 }

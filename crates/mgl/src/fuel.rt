@@ -1,9 +1,9 @@
 // The fuel message, tank by tank: type 11, version 1, a body of 4 + 8k bytes with k from 1 to 32.
-use content::NumberReading;
-use content::Refusal;
+use answer::Refusal;
+use content::NumberResult;
 ghost use mathlib.Core.Path.{_≡_};
 ghost use Rattle.content.specs.Shared.{numberAnswer};
-ghost use Rattle.mgl.specs.Fuel.{isFuel, countOf, tankAnswer, tankAt, tankOf};
+ghost use Rattle.mgl.specs.Fuel.{isFuel, tankCountOf, tankAnswer, tankAt, tankOf};
 
 pub struct Tank {
     pub level: i32,
@@ -12,7 +12,7 @@ pub struct Tank {
     pub sensors: u16,
 }
 
-pub enum TankReading {
+pub enum TankResult {
     Read(Tank),
     Refused(Refusal),
 }
@@ -33,20 +33,20 @@ fn is_fuel(s: &[u8]) -> bool
 }
 
 // How many tanks a fuel frame has. The body's first number is signed; k is small, so comparing the bits compares the numbers.
-pub fn read_count(s: &[u8]) -> NumberReading
-    ensures { λ r. ⌜ numberAnswer r ≡ countOf (now (s .entry)) ⌝ }
+pub fn read_count(s: &[u8]) -> NumberResult
+    ensures { λ r. ⌜ numberAnswer r ≡ tankCountOf (now (s .entry)) ⌝ }
 {
     if !content::is_frame(1, s) {
-        return NumberReading::Refused(Refusal::NotOneFrame);
+        return NumberResult::Refused(Refusal::NotOneFrame);
     }
     if !is_fuel(s) {
-        return NumberReading::Refused(Refusal::OtherMessage);
+        return NumberResult::Refused(Refusal::OtherMessage);
     }
     let k = (s.len() as u32 - 16) / 8;
     if numbers::u32_at(s, 8) != k {
-        return NumberReading::Refused(Refusal::OutOfForm);
+        return NumberResult::Refused(Refusal::OutOfForm);
     }
-    NumberReading::Read(k)
+    NumberResult::Read(k)
 }
 
 // Tank i of a frame, from 0.
@@ -63,16 +63,16 @@ fn tank_at(s: &[u8], i: u32) -> Tank
 }
 
 // Tank i of a fuel frame, from 0.
-pub fn read_tank(s: &[u8], i: usize) -> TankReading
+pub fn read_tank(s: &[u8], i: usize) -> TankResult
     ensures { λ r. ⌜ tankAnswer r ≡ tankOf (now (s .entry)) i ⌝ }
 {
     match read_count(s) {
-        NumberReading::Refused(r) => TankReading::Refused(r),
-        NumberReading::Read(k) => {
+        NumberResult::Refused(r) => TankResult::Refused(r),
+        NumberResult::Read(k) => {
             if k as usize <= i {
-                return TankReading::Refused(Refusal::OutOfForm);
+                return TankResult::Refused(Refusal::OutOfForm);
             }
-            TankReading::Read(tank_at(s, i as u32))
+            TankResult::Read(tank_at(s, i as u32))
         }
     }
 }

@@ -1,5 +1,5 @@
 // The GPS message: type 2, version 1, L = 36, so a frame of 56 bytes.
-use content::Refusal;
+use answer::Refusal;
 ghost use mathlib.Core.Path.{_≡_};
 ghost use Rattle.mgl.specs.Gps.{hasAltitude, gpsAnswer, gpsAt, gpsOf};
 
@@ -30,7 +30,7 @@ pub struct Gps {
     pub altitude_valid: bool,
 }
 
-pub enum GpsReading {
+pub enum GpsResult {
     Read(Gps),
     Refused(Refusal),
 }
@@ -74,17 +74,17 @@ fn fields(s: &[u8]) -> Gps
     }
 }
 
-pub fn read_gps(s: &[u8]) -> GpsReading
+pub fn read_gps(s: &[u8]) -> GpsResult
     ensures { λ r. ⌜ gpsAnswer r ≡ gpsOf (now (s .entry)) ⌝ }
 {
     if !content::is_frame(1, s) {
-        return GpsReading::Refused(Refusal::NotOneFrame);
+        return GpsResult::Refused(Refusal::NotOneFrame);
     }
     if !super::is_message(s, 2, 56) {
-        return GpsReading::Refused(Refusal::OtherMessage);
+        return GpsResult::Refused(Refusal::OtherMessage);
     }
     if 5 < numbers::byte_at(s, 8, 34) {
-        return GpsReading::Refused(Refusal::OutOfForm);
+        return GpsResult::Refused(Refusal::OutOfForm);
     }
-    GpsReading::Read(fields(s))
+    GpsResult::Read(fields(s))
 }

@@ -1,11 +1,12 @@
-// Numbers of a slice at an offset, low byte first, and back; and signed numbers from their bits. Every function is total: a byte past
-// the end counts 0.
+// Numbers of a slice at an offset, low byte first, and back; signed numbers from their bits; and the lesser of two. Every function is
+// total: a byte past the end counts 0.
 ghost use mathlib.Core.Path.{_≡_};
-ghost use Prim.Native.Nat.{_+_};
+ghost use Prim.Native.Nat.{min, _+_, _*_, _%_};
 ghost use lib.ListN.{getD};
 ghost use lib.IntN.{natAbs};
 ghost use mir.Syntax.{w16, w32};
 ghost use Rattle.numbers.specs.Low.{low, lowBytes, signed, minus};
+ghost use Rattle.numbers.specs.Hex.{hexDigitOf};
 
 // The byte i places after `at`.
 pub fn byte_at(s: &[u8], at: usize, i: usize) -> u8
@@ -26,14 +27,30 @@ pub fn u16_at(s: &[u8], at: usize) -> u16
     byte_at(s, at, 0) as u16 + byte_at(s, at, 1) as u16 * 0x100
 }
 
+// A byte as a wider number, which asks no proof that it fits.
+fn wide(x: u8) -> u32
+    ensures { λ r. ⌜ r ≡ x ⌝ }
+{
+    x as u32
+}
+
+// The number of four bytes.
+pub fn u32_of(b0: u8, b1: u8, b2: u8, b3: u8) -> u32
+    ensures { λ r. ⌜ r ≡ b0 + 256 * (b1 + 256 * (b2 + 256 * b3)) ⌝ }
+{
+    wide(b0) + 256 * (wide(b1) + 256 * (wide(b2) + 256 * wide(b3)))
+}
+
 // The number of the four bytes from `at` on.
 pub fn u32_at(s: &[u8], at: usize) -> u32
     ensures { λ r. ⌜ r ≡ low 4 (now (s .entry)) at ⌝ }
 {
-    byte_at(s, at, 0) as u32
-        + byte_at(s, at, 1) as u32 * 0x100
-        + byte_at(s, at, 2) as u32 * 0x1_0000
-        + byte_at(s, at, 3) as u32 * 0x100_0000
+    u32_of(
+        byte_at(s, at, 0),
+        byte_at(s, at, 1),
+        byte_at(s, at, 2),
+        byte_at(s, at, 3),
+    )
 }
 
 // The four bytes of a number.
@@ -84,6 +101,33 @@ pub fn i32_at(s: &[u8], at: usize) -> i32
     ensures { λ r. ⌜ r ≡ signed w32 (low 4 (now (s .entry)) at) ⌝ }
 {
     i32_of(u32_at(s, at))
+}
+
+// The hexadecimal digit of n % 16, in capitals.
+pub fn hex_digit(n: u8) -> u8
+    ensures { λ r. ⌜ r ≡ hexDigitOf (n % 16) ⌝ }
+{
+    let d = n % 16;
+    if d <= 9 { b'0' + d } else { b'A' - 10 + d }
+}
+
+// The lesser of two numbers.
+pub fn min_u8(a: u8, b: u8) -> u8
+    ensures { λ r. ⌜ r ≡ min a b ⌝ }
+{
+    if a < b {
+        return a;
+    }
+    b
+}
+
+pub fn min_usize(a: usize, b: usize) -> usize
+    ensures { λ r. ⌜ r ≡ min a b ⌝ }
+{
+    if a < b {
+        return a;
+    }
+    b
 }
 
 // How far z is from 0.

@@ -9,7 +9,7 @@ use native.Mathlib.Omega.{arith}
 use lib.ListN.{getD}
 use lib.Pow.{pow-pos, pow-mono, mod-pow-add}
 use lib.Count.{onesIn, ones, ones-cat}
-use Rattle.onflight.specs.Status.{total, bitAt, setBits}
+use Rattle.onflight.specs.Status.{sumBelow, bitAt, setBits}
 use Rattle.onflight.specs.Private.{bitsOf}
 
 one-bit : (d : ℕ) → d < 2 → ones d ≡ d
@@ -20,7 +20,7 @@ one-bit (suc (suc d)) h = absurd (omega arith)
 
 -- the k low bits of n are the bits of its remainder by 2 ^ k
 low-ones : (k n : ℕ) → ones (n % 2 ^ k) ≡ bitsOf k n
-unfolding ones total bitsOf
+unfolding ones sumBelow bitsOf
 low-ones zero n = ap ones (mod-one n)
 low-ones (suc k) n =
     let top : n % 2 ^ suc k ≡ n / 2 ^ k % 2 * 2 ^ k + n % 2 ^ k = rw one-add at (mod-pow-add n 1 k) in
@@ -37,9 +37,9 @@ low-bits k m n h = sym (ones-bits m (n % 2 ^ k) (lt-of-lt-of-le (mod-lt n (pow-p
 
 module _ (s : List ℕ) where
   -- the bits of the first j bytes, and n more of the byte after them
-  byte-bits : (j n : ℕ) → n ≤ 8 → total (bitAt s) (j * 8 + n) ≡ total (bitAt s) (j * 8) + bitsOf n (getD s j 0)
-  unfolding total bitsOf bitAt
-  byte-bits j zero h = omega (arith, ap (total (bitAt s)) (add-zero (j * 8)))
+  byte-bits : (j n : ℕ) → n ≤ 8 → sumBelow (bitAt s) (j * 8 + n) ≡ sumBelow (bitAt s) (j * 8) + bitsOf n (getD s j 0)
+  unfolding sumBelow bitsOf bitAt
+  byte-bits j zero h = omega (arith, ap (sumBelow (bitAt s)) (add-zero (j * 8)))
   byte-bits j (suc n) h =
       let at : (j * 8 + n) / 8 ≡ j = omega arith in
       let bit : (j * 8 + n) % 8 ≡ n = omega arith in
@@ -49,7 +49,7 @@ module _ (s : List ℕ) where
   pub set-bits-sum : setBits s
       ≡ bitsOf 8 (getD s 0 0) + bitsOf 8 (getD s 1 0) + bitsOf 8 (getD s 2 0) + bitsOf 8 (getD s 3 0) + bitsOf 8 (getD s 4 0)
       + bitsOf 8 (getD s 5 0 % 4)
-  unfolding total setBits
+  unfolding sumBelow setBits
   set-bits-sum =
       let all : 8 ≤ 8 = omega arith in
       omega (

@@ -1,15 +1,15 @@
 // The six status bytes, and how many of their named bits are set.
+use answer::Refusal;
 use content::Judged;
-use content::NumberReading;
-use content::Refusal;
+use content::NumberResult;
 ghost use mathlib.Core.Path.{_≡_};
 ghost use Prim.Native.Nat.{_≤_};
 ghost use Rattle.content.specs.Shared.{numberAnswer};
 ghost use Rattle.onflight.specs.Status.{setBits, statusBytes, statusAnswer, statusOf, setBitsOf};
 ghost use Rattle.onflight.specs.Private.{bitsOf};
 
-// The bytes stand beside the answer (docs/DECISIONS.md, "What a reading answers"): zeros where it is a refusal.
-pub struct StatusReading {
+// The bytes stand beside the answer (docs/DECISIONS.md, "What a field function answers"): zeros where it is a refusal.
+pub struct StatusResult {
     pub answer: Judged,
     pub bytes: [u8; 6],
 }
@@ -27,16 +27,16 @@ fn bytes_of(s: &[u8]) -> [u8; 6]
     ]
 }
 
-pub fn read_status(s: &[u8]) -> StatusReading
+pub fn read_status(s: &[u8]) -> StatusResult
     ensures { λ r. ⌜ statusAnswer r ≡ statusOf (now (s .entry)) ⌝ }
 {
     if !content::is_frame(2, s) {
-        return StatusReading {
+        return StatusResult {
             answer: Judged::Refused(Refusal::NotOneFrame),
             bytes: [0; 6],
         };
     }
-    StatusReading {
+    StatusResult {
         answer: Judged::Done,
         bytes: bytes_of(s),
     }
@@ -61,12 +61,12 @@ fn set_bits(status: &[u8; 6]) -> u32
 }
 
 // How many of the 42 named status bits are set.
-pub fn read_set_bits(s: &[u8]) -> NumberReading
+pub fn read_set_bits(s: &[u8]) -> NumberResult
     ensures { λ r. ⌜ numberAnswer r ≡ setBitsOf (now (s .entry)) ⌝ }
 {
     if !content::is_frame(2, s) {
-        return NumberReading::Refused(Refusal::NotOneFrame);
+        return NumberResult::Refused(Refusal::NotOneFrame);
     }
     let bytes = bytes_of(s);
-    NumberReading::Read(set_bits(&bytes))
+    NumberResult::Read(set_bits(&bytes))
 }

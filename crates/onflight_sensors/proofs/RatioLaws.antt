@@ -14,7 +14,7 @@ use lib.Ieee.Exact.{HasValue}
 use lib.Ieee.Back.{round-whole}
 use lib.Ieee.Scale.{round-same}
 use Rattle.onflight_sensors.specs.Ratio.{ratio}
-use Rattle.onflight_sensors.specs.Meaning.{Converted, RoundedOnce, Exact, ReadingsExact}
+use Rattle.onflight_sensors.specs.Meaning.{Converted, RoundedOnce, Exact, RatiosExact}
 
 pub converted : Converted
 unfolding ofInt
@@ -65,8 +65,8 @@ size-times (negsuc n) d = size-minus (suc n * d)
     size-minus zero = refl
     size-minus (suc m) = refl
 
-pub readings-exact : ReadingsExact
-readings-exact = record {
+pub ratios-exact : RatiosExact
+ratios-exact = record {
   voltage = λ q h. exact (pos q) 25 (omega arith) (omega arith) (omega arith);
   load = λ q h. exact q 1000 (omega arith) (omega arith) (omega (arith, size-times q 1000, natAbs-le (q *ℤ pos 1000) (h .sfits)));
 }

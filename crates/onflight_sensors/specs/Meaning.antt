@@ -1,4 +1,4 @@
--- What a ratio means. Document 01 says of the two readings that are 64-bit floats: "each is one rounded division of
+-- What a ratio means. Document 01 says of the two values that are 64-bit floats: "each is one rounded division of
 -- exactly converted whole numbers, and exact where the divisor divides the raw number". Proved in proofs/RatioLaws.antt.
 use Prim.Native.Nat.{ℕ, _*_, _^_, _<_, _≤_}
 use mathlib.Core.Path.{_≡_}
@@ -25,7 +25,7 @@ RoundedOnce =
 abbrev pub Exact : Type 0
 Exact = (q : ℤ) (d : ℕ) → 0 < d → d ≤ 2 ^ 53 → natAbs q * d ≤ 2 ^ 53 → ratio (q *ℤ pos d) d ≡ ofInt binary64 q
 
--- So are the two readings: the voltage is a byte over 25, the load factor a signed number of 16 bits over 1000.
-pub record ReadingsExact : Type 0 where
+-- So are the two values: the voltage is a byte over 25, the load factor a signed number of 16 bits over 1000.
+pub record RatiosExact : Type 0 where
   pub voltage : (q : ℕ) → q * 25 < 256 → ratio (pos (q * 25)) 25 ≡ ofInt binary64 (pos q)
   pub load : (q : ℤ) → SFits w16 (q *ℤ pos 1000) → ratio (q *ℤ pos 1000) 1000 ≡ ofInt binary64 q

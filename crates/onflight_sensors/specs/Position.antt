@@ -8,35 +8,23 @@ use lib.ListN.{getD}
 use mir.Syntax.{w32}
 use Rattle.numbers.specs.Low.{low, signed}
 use Rattle.framing.specs.Format.{onflight}
-use Rattle.content.specs.Answer.{Answer, given, refused, unless, refusalNumber}
+use Rattle.answer.specs.Answer.{Answer, given, refused, unless, refusalNumber}
 use Rattle.content.specs.Body.{isFrame}
 use Rattle.content.specs.Shared.{Position, noPosition}
-use Rattle.onflight_sensors.specs.declared.position.FixReading.{FixReading}
-use Rattle.onflight_sensors.specs.declared.position.FixReading.the-variants as fix
-use Rattle.onflight_sensors.specs.declared.position.AltitudeReading.{AltitudeReading}
-use Rattle.onflight_sensors.specs.declared.position.AltitudeReading.the-variants as altitude
+use Rattle.onflight_sensors.specs.Sensor.{Pair, noPair}
+use Rattle.onflight_sensors.specs.declared.position.AltitudeResult.{AltitudeResult}
+use Rattle.onflight_sensors.specs.declared.position.AltitudeResult.the-variants as altitude
 
 -- 0, 2, 3 and 4; not 1, 5, 6 and 7
 unfoldable pub isFix : ℕ → Bool
 isFix n = not (eqb n 1) && leb n 4
 
-pub record Fix : Type 0 where
-  pub fix : ℕ
-  pub satellites : ℕ
-
-abbrev pub noFix : Fix
-noFix = record { fix = 0; satellites = 0 }
-
-abbrev pub fixAnswer : FixReading → Answer Fix
-fixAnswer (fix.Read a b) = given (record { fix = a; satellites = b })
-fixAnswer (fix.Refused r) = refused noFix (refusalNumber r)
-
--- the low 3 and the high 5 bits of byte 40
-unfoldable pub fixOf : List ℕ → Answer Fix
+-- fix and satellites: the low 3 and the high 5 bits of byte 40
+unfoldable pub fixOf : List ℕ → Answer Pair
 fixOf s =
-    unless noFix (isFrame onflight s) 7
-    (unless noFix (isFix (getD s 40 0 % 8)) 9
-    (given (record { fix = getD s 40 0 % 8; satellites = getD s 40 0 / 8 })))
+    unless noPair (isFrame onflight s) 7
+    (unless noPair (isFix (getD s 40 0 % 8)) 9
+    (given (record { first = getD s 40 0 % 8; second = getD s 40 0 / 8 })))
 
 -- latitude and longitude, signed numbers of four bytes from `at` on: GNSS at 60, INS at 116
 unfoldable pub positionOf : ℕ → List ℕ → Answer Position
@@ -44,7 +32,7 @@ positionOf at s =
     unless noPosition (isFrame onflight s) 7
     (given (record { latitude = signed w32 (low 4 s at); longitude = signed w32 (low 4 s (at + 4)) }))
 
-abbrev pub altitudeAnswer : AltitudeReading → Answer ℤ
+abbrev pub altitudeAnswer : AltitudeResult → Answer ℤ
 altitudeAnswer (altitude.Read a) = given a
 altitudeAnswer (altitude.Refused r) = refused (pos 0) (refusalNumber r)
 

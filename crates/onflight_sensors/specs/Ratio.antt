@@ -1,4 +1,4 @@
--- The two readings that are 64-bit floats (docs/FORMATS.md, "OnFlight content").
+-- The two values that are 64-bit floats (docs/FORMATS.md, "OnFlight content").
 use Prim.Native.Nat.{ℕ}
 use mathlib.Core.List.{List}
 use lib.IntN.{ℤ, pos}
@@ -7,10 +7,10 @@ use lib.ListN.{getD}
 use mir.Syntax.{w16}
 use Rattle.numbers.specs.Low.{low, signed}
 use Rattle.framing.specs.Format.{onflight}
-use Rattle.content.specs.Answer.{Answer, given, refused, unless, refusalNumber}
+use Rattle.answer.specs.Answer.{Answer, given, refused, unless, refusalNumber}
 use Rattle.content.specs.Body.{isFrame}
-use Rattle.onflight_sensors.specs.declared.ratio.RatioReading.{RatioReading}
-use Rattle.onflight_sensors.specs.declared.ratio.RatioReading.the-variants.{Read, Refused}
+use Rattle.onflight_sensors.specs.declared.ratio.RatioResult.{RatioResult}
+use Rattle.onflight_sensors.specs.declared.ratio.RatioResult.the-variants.{Read, Refused}
 
 -- z over d: both converted, and one division, rounded once
 unfoldable pub ratio : ℤ → ℕ → Float
@@ -19,7 +19,7 @@ ratio z d = div binary64 (ofInt binary64 z) (ofInt binary64 (pos d))
 abbrev pub noRatio : Float
 noRatio = ofInt binary64 (pos 0)
 
-abbrev pub ratioAnswer : RatioReading → Answer Float
+abbrev pub ratioAnswer : RatioResult → Answer Float
 ratioAnswer (Read x) = given x
 ratioAnswer (Refused r) = refused noRatio (refusalNumber r)
 

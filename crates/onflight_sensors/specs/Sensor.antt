@@ -6,26 +6,27 @@ use lib.ListN.{getD}
 use mir.Syntax.{w16}
 use Rattle.numbers.specs.Low.{low, signed}
 use Rattle.framing.specs.Format.{onflight}
-use Rattle.content.specs.Answer.{Answer, given, refused, unless, refusalNumber}
+use Rattle.answer.specs.Answer.{Answer, given, refused, unless, refusalNumber}
 use Rattle.content.specs.Body.{isFrame}
-use Rattle.onflight_sensors.specs.declared.sensor.VoltagesReading.{VoltagesReading}
-use Rattle.onflight_sensors.specs.declared.sensor.VoltagesReading.the-variants as voltages
-use Rattle.onflight_sensors.specs.declared.sensor.AxesReading.{AxesReading}
-use Rattle.onflight_sensors.specs.declared.sensor.AxesReading.the-variants as axes
+use Rattle.onflight_sensors.specs.declared.sensor.PairResult.{PairResult}
+use Rattle.onflight_sensors.specs.declared.sensor.PairResult.the-variants as pair
+use Rattle.onflight_sensors.specs.declared.sensor.AxesResult.{AxesResult}
+use Rattle.onflight_sensors.specs.declared.sensor.AxesResult.the-variants as axes
 
-pub record Voltages : Type 0 where
-  pub input : ℕ
-  pub filtered : ℕ
+pub record Pair : Type 0 where
+  pub first : ℕ
+  pub second : ℕ
 
-abbrev pub noVoltages : Voltages
-noVoltages = record { input = 0; filtered = 0 }
+abbrev pub noPair : Pair
+noPair = record { first = 0; second = 0 }
 
-abbrev pub voltagesAnswer : VoltagesReading → Answer Voltages
-voltagesAnswer (voltages.Read a b) = given (record { input = a; filtered = b })
-voltagesAnswer (voltages.Refused r) = refused noVoltages (refusalNumber r)
+abbrev pub pairAnswer : PairResult → Answer Pair
+pairAnswer (pair.Read a b) = given (record { first = a; second = b })
+pairAnswer (pair.Refused r) = refused noPair (refusalNumber r)
 
-unfoldable pub voltagesOf : List ℕ → Answer Voltages
-voltagesOf s = unless noVoltages (isFrame onflight s) 7 (given (record { input = getD s 14 0; filtered = getD s 15 0 }))
+-- input and filtered
+unfoldable pub voltagesOf : List ℕ → Answer Pair
+voltagesOf s = unless noPair (isFrame onflight s) 7 (given (record { first = getD s 14 0; second = getD s 15 0 }))
 
 pub record Axes : Type 0 where
   pub x : ℤ
@@ -35,7 +36,7 @@ pub record Axes : Type 0 where
 abbrev pub noAxes : Axes
 noAxes = record { x = pos 0; y = pos 0; z = pos 0 }
 
-abbrev pub axesAnswer : AxesReading → Answer Axes
+abbrev pub axesAnswer : AxesResult → Answer Axes
 axesAnswer (axes.Read a b c) = given (record { x = a; y = b; z = c })
 axesAnswer (axes.Refused r) = refused noAxes (refusalNumber r)
 

@@ -7,9 +7,9 @@ use native.Mathlib.Nat.{add-sub-cancel-left}
 use native.Mathlib.Omega.{arith}
 use lib.ListN.{length, take, drop, replicate, getD, take-append-drop, length-append, length-drop, length-take, drop-of-length-le}
 use lib.Seq.{take-all, take-nil, take-add, take-at, drop-at, length-take-le, getD-drop, getD-append-add, paste, length-paste-head}
-use Rattle.room.specs.Room.{lay, copied}
-use Rattle.room.proofs.RoomLaws.{start-copied, lay-copied, lay-behind}
-use Rattle.reader.specs.State.{padded}
+use Rattle.buffer.specs.Buffer.{put, copied}
+use Rattle.buffer.proofs.BufferLaws.{start-copied, put-copied, put-behind}
+use Rattle.reader.specs.State.{heldLength, heldBytes}
 
 -- ---- parts
 
@@ -29,7 +29,7 @@ mid-part s a n = ap (λ (k : ℕ). take k (drop a s)) (add-sub-cancel-left a n)
 -- two copies, one behind the other
 pub joins : (work a b : List ℕ) (k : ℕ) → length a ≡ k → k + length b ≤ length work → take (k + length b) (copied b (copied a work 0) k) ≡ a ++ b
 joins work a b k e h =
-    rw (start-copied a work (omega arith), lay-copied a b work k e h)
+    rw (start-copied a work (omega arith), put-copied a b work k e h)
     (take-at (a ++ b) (drop (length (a ++ b)) work) (k + length b) (rw (length-append a b, e)))
 
 -- a copy behind the first ones
@@ -72,21 +72,21 @@ rest-part h used total u =
     let q : total ≡ used + (total - used) = omega arith in
     ap (λ (i : ℕ). drop used (take i h)) q ∙ drop-take used (total - used) h
 
-pub forgets : (h h₁ : List ℕ) (used total : ℕ) → used ≤ total → total ≤ 275 → length h ≡ 275 → length h₁ ≡ length h
+pub holds-rest : (h h₁ : List ℕ) (used total : ℕ) → used ≤ total → total ≤ heldLength → length h ≡ heldLength → length h₁ ≡ length h
     → take (total - used) h₁ ≡ take (total - used) (drop used h)
-    → take (total - used) h₁ ++ replicate (length h₁ - (total - used)) 0 ≡ padded (drop used (take total h))
-forgets h h₁ used total u t l k e =
+    → take (total - used) h₁ ++ replicate (length h₁ - (total - used)) 0 ≡ heldBytes (drop used (take total h))
+holds-rest h h₁ used total u t l k e =
     let n = total - used in
     let m : length (take n (drop used h)) ≡ n = length-take-le n (drop used h) (omega (arith, length-drop used h)) in
     rw (rest-part h used total u, m, e, k, l)
 
--- ---- a room of which the later part is lent again
+-- ---- an output of which the later part is lent again
 
--- bytes laid at the start, and then others in the part behind them
-pub laid-on : (a b room room₁ ys : List ℕ) (n : ℕ) → length a ≡ n → room₁ ≡ lay a room → ys ≡ lay b (take (length room₁ - n) (drop n room₁))
-    → take n room₁ ++ (ys ++ drop (length room₁ - n) (drop n room₁)) ≡ lay (a ++ b) room
-laid-on a b room room₁ ys n l p q =
-    let back : drop n room₁ ≡ drop (length a) room = ap (drop n) p ∙ drop-at a (drop (length a) room) n l in
-    let fore : take n room₁ ≡ a = ap (take n) p ∙ take-at a (drop (length a) room) n l in
-    let none : drop (length room₁ - n) (drop n room₁) ≡ [] = drop-of-length-le (drop n room₁) {i = length room₁ - n} (rw (length-drop n room₁) (omega arith)) in
-    rw (fore, none, append-nil ys, q, tail-part room₁ n, back) (lay-behind a b room)
+-- bytes put at the start, and then others in the part behind them
+pub laid-on : (a b out out₁ ys : List ℕ) (n : ℕ) → length a ≡ n → out₁ ≡ put a out → ys ≡ put b (take (length out₁ - n) (drop n out₁))
+    → take n out₁ ++ (ys ++ drop (length out₁ - n) (drop n out₁)) ≡ put (a ++ b) out
+laid-on a b out out₁ ys n l p q =
+    let back : drop n out₁ ≡ drop (length a) out = ap (drop n) p ∙ drop-at a (drop (length a) out) n l in
+    let fore : take n out₁ ≡ a = ap (take n) p ∙ take-at a (drop (length a) out) n l in
+    let none : drop (length out₁ - n) (drop n out₁) ≡ [] = drop-of-length-le (drop n out₁) {i = length out₁ - n} (rw (length-drop n out₁) (omega arith)) in
+    rw (fore, none, append-nil ys, q, tail-part out₁ n, back) (put-behind a b out)

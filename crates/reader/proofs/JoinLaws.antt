@@ -5,12 +5,12 @@ use mathlib.Core.List.{List, _++_, append-assoc}
 use native.Mathlib.Omega.{arith}
 use lib.ListN.{length, take, drop, take-append-drop, length-append}
 use lib.Seq.{length-take-le, drop-append-le, drop-append-add, take-at, drop-at}
-use Rattle.room.specs.Room.{lay}
+use Rattle.buffer.specs.Buffer.{put}
 use Rattle.framing.specs.Format.{Format, pendingBound}
 use Rattle.framing.specs.Reading.{ongoing, Reading, read, extend, joined, oneFrame, framedBytes, skippedBytes, framedCount, skippedCount}
 use Rattle.framing.proofs.ReadingLaws.{streaming, pending-bound, balance, total-append, joined-append, length-joined}
-use Rattle.reader.specs.declared.walk.Walked.{Walked}
-use Rattle.reader.specs.Private.{countsOf, Joined}
+use Rattle.reader.specs.declared.lines.LineCounts.{LineCounts}
+use Rattle.reader.specs.Private.{lineCountsOf, Joined}
 use Rattle.reader.proofs.HeldLaws.{tail-part, laid-on}
 use Rattle.reader.proofs.StepLaws.{frames-most, rest-stands}
 
@@ -19,7 +19,7 @@ abbrev pub usedOf : Reading → ℕ
 usedOf g = framedCount g + skippedCount g
 
 -- no number passes the bytes
-pub counts-most : (f : Format) (xs : List ℕ) (w : Walked) → w ≡ countsOf (read ongoing f xs) → (w .framed + w .skipped ≤ length xs) × (w .frames ≤ w .framed)
+pub counts-most : (f : Format) (xs : List ℕ) (w : LineCounts) → w ≡ lineCountsOf (read ongoing f xs) → (w .framed + w .skipped ≤ length xs) × (w .frames ≤ w .framed)
 counts-most f xs w e = rw (e) (omega (arith, balance ongoing f xs), frames-most ongoing f xs)
 
 -- behind the first of two lists
@@ -28,7 +28,7 @@ drop-behind p b n u l h =
     let e : u ≡ length p + (u - n) = omega arith in
     ap (λ (k : ℕ). drop k (p ++ b)) e ∙ drop-append-add p b (u - n)
 
-module _ (f : Format) (line : List ℕ) (pending : ℕ) (bytes room : List ℕ) (j : Joined f line pending bytes room) where
+module _ (f : Format) (line : List ℕ) (pending : ℕ) (bytes out : List ℕ) (j : Joined f line pending bytes out) where
   abbrev start : List ℕ
   start = take pending line
 
@@ -64,20 +64,20 @@ module _ (f : Format) (line : List ℕ) (pending : ℕ) (bytes room : List ℕ) 
       ∙ drop-behind start bytes pending u (length-take-le pending line (j .held)) used-held) in
       ap (read ongoing f) (sym whole) ∙ streaming ongoing f line (drop k bytes) ∙ rw (left)
 
-  pub resumed : (w v : Walked) (room₁ ys : List ℕ) → w ≡ countsOf g → room₁ ≡ lay (joined (g .events)) room
-      → v ≡ countsOf (read ongoing f (take (length bytes - (w .framed + w .skipped - pending)) (drop (w .framed + w .skipped - pending) bytes)))
+  pub resumed : (w v : LineCounts) (out₁ ys : List ℕ) → w ≡ lineCountsOf g → out₁ ≡ put (joined (g .events)) out
+      → v ≡ lineCountsOf (read ongoing f (take (length bytes - (w .framed + w .skipped - pending)) (drop (w .framed + w .skipped - pending) bytes)))
       → ys
-      ≡ lay (joined (read ongoing f (take (length bytes - (w .framed + w .skipped - pending)) (drop (w .framed + w .skipped - pending) bytes)) .events))
-      (take (length room₁ - w .framed) (drop (w .framed) room₁))
-      → (record { framed = w .framed + v .framed; skipped = w .skipped + v .skipped; frames = w .frames + v .frames } ≡ countsOf (read ongoing f (start ++ bytes)))
-      × (take (w .framed) room₁ ++ (ys ++ drop (length room₁ - w .framed) (drop (w .framed) room₁)) ≡ lay (joined (read ongoing f (start ++ bytes) .events)) room)
-  resumed w v room₁ ys e l q m =
-      let p : v ≡ countsOf h = rw (e, tail-part bytes (usedOf g - pending)) at q in
-      let n : ys ≡ lay (joined (h .events)) (take (length room₁ - framedCount g) (drop (framedCount g) room₁)) =
+      ≡ put (joined (read ongoing f (take (length bytes - (w .framed + w .skipped - pending)) (drop (w .framed + w .skipped - pending) bytes)) .events))
+      (take (length out₁ - w .framed) (drop (w .framed) out₁))
+      → (record { framed = w .framed + v .framed; skipped = w .skipped + v .skipped; frames = w .frames + v .frames } ≡ lineCountsOf (read ongoing f (start ++ bytes)))
+      × (take (w .framed) out₁ ++ (ys ++ drop (length out₁ - w .framed) (drop (w .framed) out₁)) ≡ put (joined (read ongoing f (start ++ bytes) .events)) out)
+  resumed w v out₁ ys e l q m =
+      let p : v ≡ lineCountsOf h = rw (e, tail-part bytes (usedOf g - pending)) at q in
+      let n : ys ≡ put (joined (h .events)) (take (length out₁ - framedCount g) (drop (framedCount g) out₁)) =
       rw (e, tail-part bytes (usedOf g - pending)) at m in
       rw (e, resumes, p) (
         rw (total-append framedBytes (g .events) (h .events), total-append skippedBytes (g .events) (h .events), total-append oneFrame (g .events) (h .events)),
-        rw (joined-append (g .events) (h .events)) (laid-on (joined (g .events)) (joined (h .events)) room room₁ ys (framedCount g) (length-joined (g .events)) l n),
+        rw (joined-append (g .events) (h .events)) (laid-on (joined (g .events)) (joined (h .events)) out out₁ ys (framedCount g) (length-joined (g .events)) l n),
       )
 
 -- ---- before and after it
@@ -90,19 +90,19 @@ module _ (start bytes line : List ℕ) (pending k : ℕ) (l : length start ≡ p
   pub joined-start : take pending line ≡ start
   joined-start = ap (take pending) e ∙ take-at start (take k bytes) pending l
 
-  pub joins-piece : (f : Format) (room : List ℕ) → pendingBound f ≤ k → pending + length bytes ≤ length room → Joined f line pending bytes room
-  joins-piece f room h r =
+  pub joins-piece : (f : Format) (out : List ℕ) → pendingBound f ≤ k → pending + length bytes ≤ length out → Joined f line pending bytes out
+  joins-piece f out h r =
       let m : k ≡ length line - pending = omega (arith, joined-length) in
       record {
         held = omega (arith, joined-length);
         enough = omega (arith, joined-length);
         short = omega (arith, joined-length);
         more = ap (drop pending) e ∙ drop-at start (take k bytes) pending l ∙ ap (λ (n : ℕ). take n bytes) m;
-        roomy = r;
+        large-enough = r;
       }
 
 -- the reading of a longer piece leaves the pending bytes behind
-pub passed-held : (f : Format) (start bytes : List ℕ) (pending : ℕ) (w : Walked) → length start ≡ pending → pendingBound f ≤ length bytes
-    → w ≡ countsOf (read ongoing f (start ++ bytes)) → pending ≤ w .framed + w .skipped
+pub passed-held : (f : Format) (start bytes : List ℕ) (pending : ℕ) (w : LineCounts) → length start ≡ pending → pendingBound f ≤ length bytes
+    → w ≡ lineCountsOf (read ongoing f (start ++ bytes)) → pending ≤ w .framed + w .skipped
 passed-held f start bytes pending w l h e =
     rw (e) (omega (arith, balance ongoing f (start ++ bytes), pending-bound ongoing f (start ++ bytes), length-append start bytes))

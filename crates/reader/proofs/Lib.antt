@@ -1,9 +1,9 @@
 -- Laws that the functions' proofs cite.
 pub mod CallLaws
-pub mod FinishLaws
+pub mod ReadClosingLaws
 pub mod HeldLaws
 pub mod JoinLaws
-pub mod JudgeLaws
-pub mod PlaceLaws
+pub mod RefusalLaws
+pub mod InPlaceLaws
 pub mod StepLaws
-pub mod WalkLaws
+pub mod ReadLineLaws

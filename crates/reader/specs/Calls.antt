@@ -5,39 +5,39 @@ use mathlib.Core.Bool.{Bool, true, false, cond}
 use mathlib.Core.List.{List, [], _++_}
 use lib.Dec.{eqb}
 use lib.ListN.{length}
-use Rattle.room.specs.Room.{lay}
+use Rattle.buffer.specs.Buffer.{put}
 use Rattle.framing.specs.Format.{formatOf}
 use Rattle.framing.specs.Reading.{Mode, ongoing, closing, Reading, read, joined, frameCount, framedCount, skippedCount, pendingCount}
 use Rattle.reader.specs.declared.Reader.{Reader as State}
 use Rattle.reader.specs.declared.Outcome.{Outcome}
-use Rattle.reader.specs.State.{pendingBytes, padded}
+use Rattle.reader.specs.State.{pendingBytes, heldBytes}
 use Rattle.reader.specs.Refusal.{refusal}
 
--- A call on a reader: a piece, its bytes and the room as lent; or a close, and the room as lent.
+-- A call on a reader: a piece, its bytes and the output as lent; or a close, and the output as lent.
 pub data Call : Type 0 where
   aPiece : List ℕ → List ℕ → Call
   aClose : List ℕ → Call
 
 -- the bytes that a call brings: none for a close
 abbrev pub bytesOf : Call → List ℕ
-bytesOf (aPiece bs room) = bs
-bytesOf (aClose room) = []
+bytesOf (aPiece bs out) = bs
+bytesOf (aClose out) = []
 
-abbrev pub roomOf : Call → List ℕ
-roomOf (aPiece bs room) = room
-roomOf (aClose room) = room
+abbrev pub outOf : Call → List ℕ
+outOf (aPiece bs out) = out
+outOf (aClose out) = out
 
 abbrev pub closes : Call → Bool
-closes (aPiece bs room) = false
-closes (aClose room) = true
+closes (aPiece bs out) = false
+closes (aClose out) = true
 
--- A call as it returns: what it answers, and the room.
+-- A call as it returns: what it answers, and the output.
 pub record Returned : Type 0 where
   pub outcome : Outcome
-  pub room : List ℕ
+  pub out : List ℕ
 
 abbrev pub returned : Outcome → List ℕ → Returned
-returned o room = record { outcome = o; room = room }
+returned o out = record { outcome = o; out = out }
 
 -- the reading of a line that is open, and of one that is closed
 abbrev pub modeOf : Bool → Mode
@@ -57,26 +57,26 @@ grown r closed g =
       framed = r .framed + framedCount g;
       skipped = r .skipped + skippedCount g;
       pending = pendingCount g;
-      held = padded (g .rest);
+      held = heldBytes (g .rest);
     }
 
--- An accepted call: the reader has read g more, and the frames of g are laid in the room.
+-- An accepted call: the reader has read g more, and the frames of g are put at the start of the output.
 abbrev pub taken : State → Bool → Reading → List ℕ → Returned
-taken r closed g room = returned (record { answer = 0; frames = frameCount g; reader = grown r closed g }) (lay (joined (g .events)) room)
+taken r closed g out = returned (record { answer = 0; frames = frameCount g; reader = grown r closed g }) (put (joined (g .events)) out)
 
--- A refusal hands out no frames, and hands back the reader as given and the room untouched.
+-- A refusal hands out no frames, and hands back the reader as given and the output untouched.
 abbrev pub refusedOf : ℕ → State → Outcome
 refusedOf a r = record { answer = a; frames = 0; reader = r }
 
-abbrev pub refused : ℕ → State → List ℕ → Returned
-refused a r room = returned (refusedOf a r) room
+abbrev pub refusedCall : ℕ → State → List ℕ → Returned
+refusedCall a r out = returned (refusedOf a r) out
 
 -- What a call on the reader r gives.
 unfoldable pub serve : State → Call → Returned
 serve r c =
-    let a = refusal r (length (bytesOf c)) (length (roomOf c)) in
-    cond (eqb a 0) (taken r (closes c) (gain r c) (roomOf c)) (refused a r (roomOf c))
+    let a = refusal r (length (bytesOf c)) (length (outOf c)) in
+    cond (eqb a 0) (taken r (closes c) (gain r c) (outOf c)) (refusedCall a r (outOf c))
 
--- No call changes the length of its room: the frames that it hands out always fit. (`room-kept`, proofs/CallLaws.antt)
-abbrev pub RoomKept : Type 0
-RoomKept = (r : State) (c : Call) → length (serve r c .room) ≡ length (roomOf c)
+-- No call changes the length of its output: the frames that it hands out always fit. (`out-length-kept`, proofs/CallLaws.antt)
+abbrev pub OutLengthKept : Type 0
+OutLengthKept = (r : State) (c : Call) → length (serve r c .out) ≡ length (outOf c)

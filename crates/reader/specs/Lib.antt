@@ -1,6 +1,6 @@
 -- What the contracts of `reader` cite: a reader, its refusals, and what a call on it gives.
 pub mod Calls
-pub mod Place
+pub mod InPlace
 pub mod Private
 pub mod Refusal
 pub mod State

@@ -2,6 +2,8 @@
 use Prim.Native.Nat.{ℕ, _+_}
 use mathlib.Core.Bool.{Bool, true, false, cond, not, _&&_, _||_}
 use lib.Dec.{ltb}
+use Rattle.answer.specs.declared.Refusal.the-variants.{PieceTooLong, Closed, LineTooLong, PieceOutputTooSmall, BrokenReader}
+use Rattle.answer.specs.Answer.{refusalNumber}
 use Rattle.framing.specs.declared.Scanned.{Scanned}
 use Rattle.framing.specs.declared.Scanned.the-variants.{Whole, Partial, Broken}
 use Rattle.framing.specs.Format.{known, formatOf, pendingBound}
@@ -15,10 +17,11 @@ isStart (Whole n) = false
 isStart Partial = true
 isStart (Broken r) = false
 
--- the longest piece, and the most bytes that a reader counts
+-- the longest piece (refusal 1)
 abbrev pub longestPiece : ℕ
 longestPiece = 4096
 
+-- the most bytes that a reader counts (refusals 3 and 11)
 abbrev pub mostBytes : ℕ
 mostBytes = 4294967295
 
@@ -32,11 +35,11 @@ broken r =
     || (r .closed && ltb 0 (r .pending)
     || ltb mostBytes (sum r))))
 
--- The refusal of a call that brings n bytes and lends so much room, or 0. "Order for readers: 11, 2, 1, 3, 4."
+-- The refusal of a call that brings n bytes and lends an output of so many, or 0. "Order for readers: 11, 2, 1, 3, 4."
 unfoldable pub refusal : State → ℕ → ℕ → ℕ
-refusal r n room =
-    cond (broken r) 11
-    (cond (r .closed) 2
-    (cond (ltb longestPiece n) 1
-    (cond (ltb mostBytes (sum r + n)) 3
-    (cond (ltb room (r .pending + n)) 4 0))))
+refusal r n out =
+    cond (broken r) (refusalNumber BrokenReader)
+    (cond (r .closed) (refusalNumber Closed)
+    (cond (ltb longestPiece n) (refusalNumber PieceTooLong)
+    (cond (ltb mostBytes (sum r + n)) (refusalNumber LineTooLong)
+    (cond (ltb out (r .pending + n)) (refusalNumber PieceOutputTooSmall) 0))))

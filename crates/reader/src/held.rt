@@ -4,7 +4,7 @@ ghost use mathlib.Core.List.{_++_};
 ghost use Prim.Native.Nat.{_+_, _-_, _≤_};
 ghost use lib.ListN.{length, take, drop, replicate};
 ghost use lib.Seq.{paste};
-ghost use Rattle.reader.specs.State.{padded};
+ghost use Rattle.reader.specs.State.{heldLength, heldBytes};
 
 // Writes zeros from a place on.
 fn clear(held: &mut [u8], from: usize)
@@ -32,18 +32,18 @@ fn shift(held: &mut [u8], from: usize, n: usize)
 }
 
 // Holds the rest of a line.
-pub(crate) fn keep(rest: &[u8], held: &mut [u8])
-    requires { ⌜ (length (now rest) ≤ 275) × (length (now held) ≡ 275) ⌝ }
-    ensures { λ _. ⌜ now (held .exit) ≡ padded (now (rest .entry)) ⌝ }
+pub(crate) fn hold(rest: &[u8], held: &mut [u8])
+    requires { ⌜ (length (now rest) ≤ heldLength) × (length (now held) ≡ heldLength) ⌝ }
+    ensures { λ _. ⌜ now (held .exit) ≡ heldBytes (now (rest .entry)) ⌝ }
 {
-    room::copy(rest, held, 0);
+    buffer::copy(rest, held, 0);
     clear(held, rest.len());
 }
 
 // Holds the rest of a line that is itself in `held`: its bytes from `used` to `total`.
-pub(crate) fn forget(held: &mut [u8], used: usize, total: usize)
-    requires { ⌜ (used ≤ total) × (total ≤ 275) × (length (now held) ≡ 275) ⌝ }
-    ensures { λ _. ⌜ now (held .exit) ≡ padded (drop used (take total (now (held .entry)))) ⌝ }
+pub(crate) fn hold_rest(held: &mut [u8], used: usize, total: usize)
+    requires { ⌜ (used ≤ total) × (total ≤ heldLength) × (length (now held) ≡ heldLength) ⌝ }
+    ensures { λ _. ⌜ now (held .exit) ≡ heldBytes (drop used (take total (now (held .entry)))) ⌝ }
 {
     let left = total - used;
     if used == 0 {

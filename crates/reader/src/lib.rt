@@ -1,18 +1,19 @@
 // A reader of a line that comes in pieces.
 mod held;
-mod judge;
-pub mod place;
-mod walk;
+pub mod in_place;
+mod lines;
+mod refusal;
 
-use place::Advance;
-use place::Numbers;
+use answer::Refusal;
+use in_place::Advance;
+use in_place::Words;
 ghost use mathlib.Core.Path.{_≡_};
 ghost use Rattle.reader.specs.State.{empty, freshOf};
 ghost use Rattle.reader.specs.Calls.{aPiece, aClose, returned, serve};
-ghost use Rattle.reader.specs.Place.{stateOf, outcomeOf};
+ghost use Rattle.reader.specs.InPlace.{stateOf, outcomeOf};
 
-// A reader goes into a call by value and comes back by value. Its three numbers are framed, skipped and pending; the first pending
-// bytes of held are those that wait for more.
+// A reader goes into a call by value and comes back by value. Its counts are framed, skipped and pending; the first
+// pending bytes of held are those that wait for more.
 pub struct Reader {
     pub format: u32,
     pub closed: bool,
@@ -70,31 +71,31 @@ impl Reader {
             };
         }
         Opening {
-            answer: 11,
+            answer: answer::refusal_number(Refusal::BrokenReader),
             reader: empty(0, true),
         }
     }
 
-    // Reads a piece: its frames are laid back to back from the start of room. A refusal changes nothing.
-    pub fn piece(self, bytes: &[u8], room: &mut [u8]) -> Outcome
-        ensures { λ o. ⌜ returned o (now (room .exit)) ≡ serve self (aPiece (now (bytes .entry)) (now (room .entry))) ⌝ }
+    // Reads a piece: its frames are copied back to back to the start of `out`. A refusal changes nothing.
+    pub fn piece(self, bytes: &[u8], out: &mut [u8]) -> Outcome
+        ensures { λ o. ⌜ returned o (now (out .exit)) ≡ serve self (aPiece (now (bytes .entry)) (now (out .entry))) ⌝ }
     {
         let mut held = self.held;
-        let a = place::piece(numbers_of(self), &mut held, bytes, room);
+        let a = in_place::piece(words_of(self), &mut held, bytes, out);
         joined_outcome(a, held)
     }
 
-    // Ends the line: what the closing reading adds is laid in room in the same way. A refusal changes nothing.
-    pub fn close(self, room: &mut [u8]) -> Outcome
-        ensures { λ o. ⌜ returned o (now (room .exit)) ≡ serve self (aClose (now (room .entry))) ⌝ }
+    // Ends the line: what the closing reading adds is copied to `out` in the same way. A refusal changes nothing.
+    pub fn close(self, out: &mut [u8]) -> Outcome
+        ensures { λ o. ⌜ returned o (now (out .exit)) ≡ serve self (aClose (now (out .entry))) ⌝ }
     {
         let mut held = self.held;
-        let a = place::close(numbers_of(self), &mut held, room);
+        let a = in_place::close(words_of(self), &mut held, out);
         joined_outcome(a, held)
     }
 }
 
-// A reader with all numbers and held bytes 0.
+// A reader with all counts and held bytes 0.
 fn empty(format: u32, closed: bool) -> Reader
     ensures { λ r. ⌜ r ≡ empty format closed ⌝ }
 {
@@ -108,11 +109,11 @@ fn empty(format: u32, closed: bool) -> Reader
     }
 }
 
-// A reader's numbers.
-pub fn numbers_of(r: Reader) -> Numbers
+// A reader's words.
+pub fn words_of(r: Reader) -> Words
     ensures { λ n. ⌜ stateOf n (r .held) ≡ r ⌝ }
 {
-    Numbers {
+    Words {
         format: r.format,
         closed: r.closed,
         framed: r.framed,
@@ -125,7 +126,7 @@ pub fn numbers_of(r: Reader) -> Numbers
 fn joined_outcome(a: Advance, held: [u8; Reader::HELD]) -> Outcome
     ensures { λ o. ⌜ o ≡ outcomeOf a held ⌝ }
 {
-    let n = a.numbers;
+    let n = a.words;
     Outcome {
         answer: a.answer,
         frames: a.frames,

@@ -1,4 +1,4 @@
--- The bodies and sheets of a file that goes on: those that are whole stay as they are.
+-- The captures and sheets of a file that goes on: those that are whole stay as they are.
 -- Assumes nothing.
 use Prim.Native.Nat.{ℕ, zero, suc, _+_, _≤_, _<_}
 use mathlib.Core.Path.{_≡_, refl}
@@ -9,7 +9,7 @@ use lib.ListN.{length, drop, length-drop}
 use lib.Seq.{take-append-le, drop-append-le}
 use borrow.Author.Tests.{lt-ltb, le-ltb}
 use Rattle.benchfile.specs.declared.sheet.Sheet.{Sheet}
-use Rattle.benchfile.specs.Contents.{entries, formatAt, lengthAt, contentsLength, lengths, bodyStart}
+use Rattle.benchfile.specs.Toc.{entries, formatAt, lengthAt, tocLength, totalLength, entryStart}
 use Rattle.benchfile.specs.Sheet.{sheetText}
 use Rattle.report.specs.Sheets.{sheetAt, sheetTexts}
 use Rattle.report.specs.Step.{leftAt}
@@ -27,35 +27,35 @@ texts-are s zero = refl
 texts-are s (suc k) =
     rw (texts-append (sheetsAt s k) (sheetAt s k ∷ []), append-nil (sheetText (sheetAt s k)), texts-are s k)
 
--- where a body starts, and where the next one
-pub start-first : (s : List ℕ) → bodyStart s 0 ≡ contentsLength (entries s)
-unfolding bodyStart lengths
+-- where a capture starts, and where the next one
+pub start-first : (s : List ℕ) → entryStart s 0 ≡ tocLength (entries s)
+unfolding entryStart totalLength
 start-first s = omega arith
 
-pub start-next : (s : List ℕ) (i : ℕ) → bodyStart s (suc i) ≡ bodyStart s i + lengthAt s i
-unfolding bodyStart lengths
+pub start-next : (s : List ℕ) (i : ℕ) → entryStart s (suc i) ≡ entryStart s i + lengthAt s i
+unfolding entryStart totalLength
 start-next s i = omega arith
 
-pub start-most : (s : List ℕ) (i : ℕ) → contentsLength (entries s) ≤ bodyStart s i
-unfolding bodyStart
+pub start-most : (s : List ℕ) (i : ℕ) → tocLength (entries s) ≤ entryStart s i
+unfolding entryStart
 start-most s i = omega arith
 
-pub start-later : (s : List ℕ) (i n : ℕ) → i ≤ n → bodyStart s i ≤ bodyStart s n
+pub start-later : (s : List ℕ) (i n : ℕ) → i ≤ n → entryStart s i ≤ entryStart s n
 start-later s i zero h = let z : i ≡ 0 = omega arith in rw z (omega arith)
 start-later s i (suc n) h = go (decLe i n) (λ l. start-later s i n l)
   where
-    go : Dec (i ≤ n) → (i ≤ n → bodyStart s i ≤ bodyStart s n) → bodyStart s i ≤ bodyStart s (suc n)
+    go : Dec (i ≤ n) → (i ≤ n → entryStart s i ≤ entryStart s n) → entryStart s i ≤ entryStart s (suc n)
     go (yes l) f = omega (arith, f l, start-next s n)
     go (no l) f = let z : i ≡ suc n = omega arith in rw z (omega arith)
 
--- how many bytes a body has
+-- how many bytes a capture has
 pub left-in : (s : List ℕ) (i : ℕ) → i < entries s → leftAt s i ≡ lengthAt s i
 left-in s i h = rw (lt-ltb i (entries s) h)
 
 pub left-past : (s : List ℕ) (i : ℕ) → entries s ≤ i → leftAt s i ≡ 0
 left-past s i h = rw (le-ltb i (entries s) h)
 
-pub left-agree : (s t : List ℕ) (m : ℕ) → Agree s t m → contentsLength (entries t) ≤ m → (i : ℕ) → leftAt s i ≡ leftAt t i
+pub left-agree : (s t : List ℕ) (m : ℕ) → Agree s t m → tocLength (entries t) ≤ m → (i : ℕ) → leftAt s i ≡ leftAt t i
 left-agree s t m a h i = go (decLt i (entries t))
   where
     go : Dec (i < entries t) → leftAt s i ≡ leftAt t i
@@ -72,26 +72,26 @@ module _ (d x : List ℕ) (w : Whole d) where
   length-on : (i : ℕ) → i < entries d → lengthAt (d ++ x) i ≡ lengthAt d i
   length-on i h = length-agree (d ++ x) d (length d) (goes-on d x) i (omega (arith, w .uncut))
 
-  pub start-on : (k : ℕ) → k ≤ entries d → bodyStart (d ++ x) k ≡ bodyStart d k
+  pub start-on : (k : ℕ) → k ≤ entries d → entryStart (d ++ x) k ≡ entryStart d k
   start-on k h = start-agree (d ++ x) d (length d) (goes-on d x) k (omega (arith, w .uncut))
 
   pub left-on : (i : ℕ) → leftAt (d ++ x) i ≡ leftAt d i
   left-on i = left-agree (d ++ x) d (length d) (goes-on d x) (w .uncut) i
 
-  sheet-on : (i : ℕ) → i < entries d → bodyStart d (suc i) ≤ length d → sheetAt (d ++ x) i ≡ sheetAt d i
+  sheet-on : (i : ℕ) → i < entries d → entryStart d (suc i) ≤ length d → sheetAt (d ++ x) i ≡ sheetAt d i
   unfolding sheetAt
   sheet-on i h l =
       let n = start-next d i in
-      let k : lengthAt d i ≤ length (drop (bodyStart d i) d) = rw (length-drop (bodyStart d i) d) (omega arith) in
+      let k : lengthAt d i ≤ length (drop (entryStart d i) d) = rw (length-drop (entryStart d i) d) (omega arith) in
       rw (
         format-on i h,
         length-on i h,
         start-on i (omega arith),
-        drop-append-le (bodyStart d i) d x (omega arith),
-        take-append-le (lengthAt d i) (drop (bodyStart d i) d) x k,
+        drop-append-le (entryStart d i) d x (omega arith),
+        take-append-le (lengthAt d i) (drop (entryStart d i) d) x k,
       )
 
-  pub sheets-on : (k : ℕ) → k ≤ entries d → bodyStart d k ≤ length d → sheetsAt (d ++ x) k ≡ sheetsAt d k
+  pub sheets-on : (k : ℕ) → k ≤ entries d → entryStart d k ≤ length d → sheetsAt (d ++ x) k ≡ sheetsAt d k
   unfolding sheetsAt
   sheets-on zero h l = refl
   sheets-on (suc k) h l = let n = start-next d k in rw (sheets-on k (omega arith) (omega arith), sheet-on k (omega arith) l)

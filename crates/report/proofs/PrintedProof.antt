@@ -12,18 +12,18 @@ use lib.ListN.{length, take, drop, length-append, length-take, take-append-drop,
 use lib.Seq.{take-append-le}
 use borrow.Author.Tests.{eq-eqb, ne-eqb, le-leb, leb-true}
 use Rattle.benchfile.specs.declared.sheet.Sheet.{Sheet}
-use Rattle.benchfile.specs.Contents.{entries, contentsLength, lengths, bodyStart, fileLength, isContents, isWhole, mostEntries, longestContents}
+use Rattle.benchfile.specs.Toc.{entries, tocLength, totalLength, entryStart, fileLength, isToc, isWholeFile, mostEntries, longestToc}
 use Rattle.reader.specs.Refusal.{mostBytes}
 use Rattle.framing.specs.Meaning.{Bytes}
 use Rattle.report.specs.declared.Report.{Report}
 use Rattle.report.specs.Sheets.{sheetsOf}
-use Rattle.report.specs.Step.{noSheet, freshReport, takePiece, overrun, takeContents, takeBytes, isDone, isRefused, printed}
+use Rattle.report.specs.Step.{noSheet, freshReport, takePiece, overrun, takeToc, takeBytes, isDone, isRefused, printed}
 use Rattle.report.specs.Printed.{afterReads, PrintedSheets, LongRefused, longestFile}
 use Rattle.report.proofs.StepLaws.{pieceLength, afterPiece, shorter, taken-none, taken-byte, taken-over, taken-piece}
 use Rattle.framing.proofs.ByteLaws.{bytes-first}
-use Rattle.report.proofs.AgreeLaws.{whole-of, contents-in-first, contents-on, entries-agree, length-fits}
+use Rattle.report.proofs.AgreeLaws.{whole-of, toc-in-first, toc-on, entries-agree, length-fits}
 use Rattle.report.proofs.BodyLaws.{texts-are, start-next, start-later, left-in, left-past, entries-on, start-on}
-use Rattle.report.proofs.Stages.{Reading, Settled, Over, Stage, inContents, inBodies, tooLong, all-settled, byte-taken, piece-taken}
+use Rattle.report.proofs.Stages.{Reading, Settled, Over, Stage, inToc, inBodies, tooLong, all-settled, byte-taken, piece-taken}
 
 -- ---- the bytes of a read
 
@@ -36,8 +36,8 @@ in-body d r g l = go (decLt (r .entry) (entries d))
     go (no h) = absurd (l (omega (arith, g .left, left-past d (r .entry) (omega arith))))
 
 module _ (d : List ℕ) (b : ℕ) (bs : List ℕ) (r : Report) (p : Bytes (d ++ b ∷ bs)) where
-  -- a byte more than the contents say
-  exceeds : isContents d ≡ true → (r .length ≡ 0 → ⊥) → r .left ≡ 0 → bodyStart d (entries d) ≤ length d → Over (d ++ b ∷ bs) (overrun r)
+  -- a byte more than the table of contents says
+  exceeds : isToc d ≡ true → (r .length ≡ 0 → ⊥) → r .left ≡ 0 → entryStart d (entries d) ≤ length d → Over (d ++ b ∷ bs) (overrun r)
   unfolding overrun
   exceeds e s l h =
       let w = whole-of d e in
@@ -46,11 +46,11 @@ module _ (d : List ℕ) (b : ℕ) (bs : List ℕ) (r : Report) (p : Bytes (d ++ 
         some = s;
         over = refl;
         nothing = l;
-        contents = contents-on d (b ∷ bs) e;
+        toc = toc-on d (b ∷ bs) e;
         long = rw (entries-on d (b ∷ bs) w, start-on d (b ∷ bs) w (entries d) (omega arith)) (omega arith);
       }
 
-  read-over : isContents d ≡ true → (r .length ≡ 0 → ⊥) → r .left ≡ 0 → bodyStart d (entries d) ≤ length d → Stage (d ++ b ∷ bs) (takeBytes r (b ∷ bs))
+  read-over : isToc d ≡ true → (r .length ≡ 0 → ⊥) → r .left ≡ 0 → entryStart d (entries d) ≤ length d → Stage (d ++ b ∷ bs) (takeBytes r (b ∷ bs))
   read-over e s l h = rw (taken-over r b bs s l) (tooLong (exceeds e s l h))
 
   -- the bytes of a piece
@@ -69,7 +69,7 @@ module _ (d : List ℕ) (b : ℕ) (bs : List ℕ) (r : Report) (p : Bytes (d ++ 
       all-settled (d ++ piece) (takePiece r piece) (bytes-first (d ++ piece) rest (rw piece-and-rest p))
       (piece-taken d piece r g (bytes-first d (b ∷ bs) p) (in-body d r g l) (omega arith) (omega arith))
 
-  -- in a body, or after the last; f is what the bytes after the piece come to
+  -- in a capture, or after the last; f is what the bytes after the piece come to
   read-body : Settled d r → ((r .left ≡ 0 → ⊥) → Stage ((d ++ piece) ++ rest) (takeBytes (afterPiece r b bs) rest)) → Stage (d ++ b ∷ bs) (takeBytes r (b ∷ bs))
   read-body g f = go (decLe (r .left) 0) (decLt (r .entry) (entries d))
     where
@@ -77,7 +77,7 @@ module _ (d : List ℕ) (b : ℕ) (bs : List ℕ) (r : Report) (p : Bytes (d ++ 
       go (yes l) (yes h) = absurd (g .waiting h (omega arith))
       go (yes l) (no h) =
           let e : r .entry ≡ entries d = omega (arith, g .reading .within) in
-          read-over (g .reading .contents) (g .reading .some) (omega arith) (rw e at (g .reading .came))
+          read-over (g .reading .toc) (g .reading .some) (omega arith) (rw e at (g .reading .came))
       go (no l) h = rw (taken-piece r b bs (g .reading .some) (λ z. l (omega arith))) (rw piece-and-rest at (f (λ z. l (omega arith))))
 
 -- all bytes of a read, at most k
@@ -85,14 +85,14 @@ read-taken : (k : ℕ) (d bs : List ℕ) (r : Report) → length bs ≤ k → By
 read-taken zero d [] r h p s = rw (append-nil d, taken-none r) s
 read-taken zero d (b ∷ bs) r h p s = absurd (omega arith)
 read-taken (suc k) d [] r h p s = rw (append-nil d, taken-none r) s
-read-taken (suc k) d (b ∷ bs) r h p (inContents g) =
+read-taken (suc k) d (b ∷ bs) r h p (inToc g) =
     let e = append-assoc d (b ∷ []) bs in
     let q : Bytes ((d ++ b ∷ []) ++ bs) = rw e p in
-    rw (taken-byte r b bs (g .none)) (rw e at (read-taken k (d ++ b ∷ []) bs (takeContents r b) (omega arith) q (byte-taken d b r g (bytes-first (d ++ b ∷ []) bs q))))
+    rw (taken-byte r b bs (g .none)) (rw e at (read-taken k (d ++ b ∷ []) bs (takeToc r b) (omega arith) q (byte-taken d b r g (bytes-first (d ++ b ∷ []) bs q))))
 read-taken (suc k) d (b ∷ bs) r h p (inBodies g) =
     read-body d b bs r p g
     (λ l. read-taken k (d ++ piece d b bs r p) (rest d b bs r p) (afterPiece r b bs) (omega (arith, shorter r b bs l)) (rw (piece-and-rest d b bs r p) p) (inBodies (read-piece d b bs r p (g .reading) l)))
-read-taken (suc k) d (b ∷ bs) r h p (tooLong g) = read-over d b bs r p (g .contents) (g .some) (g .nothing) (omega (arith, g .long))
+read-taken (suc k) d (b ∷ bs) r h p (tooLong g) = read-over d b bs r p (g .toc) (g .some) (g .nothing) (omega (arith, g .long))
 
 -- ---- all reads
 
@@ -106,13 +106,13 @@ all-taken (bs ∷ reads) d r p s =
 
 -- nothing has come yet
 nothing : Stage [] freshReport
-unfolding freshReport isContents
+unfolding freshReport isToc
 nothing =
-    inContents
+    inToc
     (record {
       none = refl;
       inside = refl;
-      size = length-replicate {A = ℕ} longestContents 0;
+      size = length-replicate {A = ℕ} longestToc 0;
       places = length-replicate {A = Sheet} mostEntries noSheet;
       count = refl;
       held = refl;
@@ -120,38 +120,38 @@ nothing =
     })
 
 -- what is printed at the end
-refused-text : (d : List ℕ) (r : Report) → isDone r ≡ false → isWhole d (length d) ≡ false → printed r ≡ sheetsOf d
+refused-text : (d : List ℕ) (r : Report) → isDone r ≡ false → isWholeFile d (length d) ≡ false → printed r ≡ sheetsOf d
 unfolding printed sheetsOf
 refused-text d r e f = rw (e, f)
 
--- in a body, and after the last
+-- in a capture, and after the last
 module _ (d : List ℕ) (r : Report) (g : Settled d r) where
-  counted : entries (r .contents) ≡ entries d
-  counted = entries-agree (r .contents) d (contentsLength (entries d)) (g .reading .agree) (omega arith)
+  counted : entries (r .toc) ≡ entries d
+  counted = entries-agree (r .toc) d (tocLength (entries d)) (g .reading .agree) (omega arith)
 
   cut : r .entry < entries d → printed r ≡ sheetsOf d
-  unfolding isWhole fileLength
+  unfolding isWholeFile fileLength
   cut h =
-      let u : length d < bodyStart d (entries d) = go (decLe (r .left) 0) in
+      let u : length d < entryStart d (entries d) = go (decLe (r .left) 0) in
       refused-text d r
       (rw (counted, ne-eqb (r .entry) (entries d) (λ z. omega arith)) (and-false (not (eqb (r .length) 0) && not (r .excess))))
-      (rw (g .reading .contents, ne-eqb (bodyStart d (entries d)) (length d) (λ z. omega arith)))
+      (rw (g .reading .toc, ne-eqb (entryStart d (entries d)) (length d) (λ z. omega arith)))
     where
-      go : Dec (r .left ≤ 0) → length d < bodyStart d (entries d)
+      go : Dec (r .left ≤ 0) → length d < entryStart d (entries d)
       go (yes z) = absurd (g .waiting h (omega arith))
       go (no z) = omega (arith, g .reading .left, g .reading .came, start-later d (suc (r .entry)) (entries d) (omega arith), start-next d (r .entry), left-in d (r .entry) h)
 
   ended : r .entry ≡ entries d → printed r ≡ sheetsOf d
-  unfolding printed sheetsOf isWhole fileLength
+  unfolding printed sheetsOf isWholeFile fileLength
   ended e =
       let l = left-past d (r .entry) (omega arith) in
-      let b : bodyStart d (entries d) ≡ length d = omega (arith, g .reading .left, rw e at (g .reading .came), ap (bodyStart d) e) in
-      rw (ne-eqb (r .length) 0 (g .reading .some), g .reading .inside, counted, g .reading .sheets, eq-eqb (r .entry) (entries d) e, g .reading .contents, b, eq-eqb (length d) (length d) refl, e, texts-are d (entries d))
+      let b : entryStart d (entries d) ≡ length d = omega (arith, g .reading .left, rw e at (g .reading .came), ap (entryStart d) e) in
+      rw (ne-eqb (r .length) 0 (g .reading .some), g .reading .inside, counted, g .reading .sheets, eq-eqb (r .entry) (entries d) e, g .reading .toc, b, eq-eqb (length d) (length d) refl, e, texts-are d (entries d))
 
 pub at-end : (d : List ℕ) (r : Report) → Stage d r → printed r ≡ sheetsOf d
-unfolding isWhole fileLength
-at-end d r (inContents g) = refused-text d r (rw (g .none)) (rw (contents-in-first d (g .broken)))
-at-end d r (tooLong g) = refused-text d r (rw (ne-eqb (r .length) 0 (g .some), g .over)) (rw (g .contents, ne-eqb (bodyStart d (entries d)) (length d) (λ z. omega (arith, g .long))))
+unfolding isWholeFile fileLength
+at-end d r (inToc g) = refused-text d r (rw (g .none)) (rw (toc-in-first d (g .broken)))
+at-end d r (tooLong g) = refused-text d r (rw (ne-eqb (r .length) 0 (g .some), g .over)) (rw (g .toc, ne-eqb (entryStart d (entries d)) (length d) (λ z. omega (arith, g .long))))
 at-end d r (inBodies g) = go (decLt (r .entry) (entries d))
   where
     go : Dec (r .entry < entries d) → printed r ≡ sheetsOf d
@@ -165,20 +165,20 @@ ends reads p = all-taken reads [] freshReport p nothing
 
 -- what is refused stays refused
 refused-on : (d x : List ℕ) (r : Report) → isRefused r ≡ true → Stage d r → printed r ≡ sheetsOf (d ++ x)
-unfolding isRefused isWhole fileLength
-refused-on d x r e (inContents g) =
-    let n : longestContents ≤ r .count = leb-true longestContents (r .count) (rw (g .none) at e) in
-    let l : longestContents ≤ length d = omega (arith, g .count, length-take longestContents d) in
-    refused-text (d ++ x) r (rw (g .none)) (rw (contents-in-first (d ++ x) (rw (take-append-le longestContents d x l) (g .broken))))
+unfolding isRefused isWholeFile fileLength
+refused-on d x r e (inToc g) =
+    let n : longestToc ≤ r .count = leb-true longestToc (r .count) (rw (g .none) at e) in
+    let l : longestToc ≤ length d = omega (arith, g .count, length-take longestToc d) in
+    refused-text (d ++ x) r (rw (g .none)) (rw (toc-in-first (d ++ x) (rw (take-append-le longestToc d x l) (g .broken))))
 refused-on d x r e (inBodies g) =
     let z : _≡_ {A = Bool} false true = sym (g .reading .inside) ∙ rw (ne-eqb (r .length) 0 (g .reading .some)) at e in
     let w : _≡_ {A = ℕ} 0 1 = cc in
     absurd (omega arith)
 refused-on d x r e (tooLong g) =
-    let w = whole-of d (g .contents) in
-    let b : bodyStart (d ++ x) (entries (d ++ x)) ≡ bodyStart d (entries d) = rw (entries-on d x w) (start-on d x w (entries d) (omega arith)) in
+    let w = whole-of d (g .toc) in
+    let b : entryStart (d ++ x) (entries (d ++ x)) ≡ entryStart d (entries d) = rw (entries-on d x w) (start-on d x w (entries d) (omega arith)) in
     refused-text (d ++ x) r (rw (ne-eqb (r .length) 0 (g .some), g .over))
-    (rw (contents-on d x (g .contents), ne-eqb (bodyStart (d ++ x) (entries (d ++ x))) (length (d ++ x)) (λ z. omega (arith, g .long, length-append d x))))
+    (rw (toc-on d x (g .toc), ne-eqb (entryStart (d ++ x) (entries (d ++ x))) (length (d ++ x)) (λ z. omega (arith, g .long, length-append d x))))
 
 pub printed-sheets : PrintedSheets
 printed-sheets reads rest p (inl z) =
@@ -186,14 +186,14 @@ printed-sheets reads rest p (inl z) =
     rw e (at-end (flatten reads) (afterReads reads) (ends reads (rw e at p)))
 printed-sheets reads rest p (inr e) = refused-on (flatten reads) rest (afterReads reads) e (ends reads (bytes-first (flatten reads) rest p))
 
--- a whole file has the longest contents and the longest bodies, at most
-lengths-most : (d : List ℕ) (k : ℕ) → Bytes d → lengths d k ≤ k * mostBytes
-unfolding lengths
+-- a whole file has the longest table of contents and the longest captures, at most
+lengths-most : (d : List ℕ) (k : ℕ) → Bytes d → totalLength d k ≤ k * mostBytes
+unfolding totalLength
 lengths-most d zero p = omega arith
 lengths-most d (suc k) p = omega (arith, lengths-most d k p, length-fits d k p)
 
-start-least : (d : List ℕ) → Bytes d → isContents d ≡ true → bodyStart d (entries d) ≤ longestFile
-unfolding bodyStart
+start-least : (d : List ℕ) → Bytes d → isToc d ≡ true → entryStart d (entries d) ≤ longestFile
+unfolding entryStart
 start-least d p e = omega (arith, lengths-most d (entries d) p, whole-of d e .few)
 
 not-long : (d : List ℕ) (r : Report) → Bytes d → Reading d r → length d ≤ longestFile
@@ -201,14 +201,14 @@ not-long d r p g = go (decLt (r .entry) (entries d))
   where
     go : Dec (r .entry < entries d) → length d ≤ longestFile
     go (yes h) =
-        omega (arith, start-least d p (g .contents), start-later d (suc (r .entry)) (entries d) (omega arith), start-next d (r .entry), left-in d (r .entry) h, g .left, g .came)
+        omega (arith, start-least d p (g .toc), start-later d (suc (r .entry)) (entries d) (omega arith), start-next d (r .entry), left-in d (r .entry) h, g .left, g .came)
     go (no h) =
         let e : r .entry ≡ entries d = omega (arith, g .within) in
-        omega (arith, start-least d p (g .contents), ap (bodyStart d) e, left-past d (r .entry) (omega arith), g .left, g .came)
+        omega (arith, start-least d p (g .toc), ap (entryStart d) e, left-past d (r .entry) (omega arith), g .left, g .came)
 
 long-stage : (d : List ℕ) (r : Report) → Bytes d → longestFile < length d → Stage d r → isRefused r ≡ true
 unfolding isRefused
-long-stage d r p l (inContents g) = rw (g .none) (le-leb longestContents (r .count) (omega (arith, g .count, length-take longestContents d)))
+long-stage d r p l (inToc g) = rw (g .none) (le-leb longestToc (r .count) (omega (arith, g .count, length-take longestToc d)))
 long-stage d r p l (inBodies g) = absurd (omega (arith, not-long d r p (g .reading)))
 long-stage d r p l (tooLong g) = rw (ne-eqb (r .length) 0 (g .some), g .over)
 

@@ -1,4 +1,4 @@
--- Laws of the texts of sheets, one after the other, as they are laid in a room.
+-- Laws of the texts of sheets, one after the other, as they are put into a buffer.
 -- Assumes nothing.
 use Prim.Native.Nat.{ℕ, _+_, _*_, _≤_, _<_, min}
 use mathlib.Core.Path.{_≡_, refl, sym, _∙_}
@@ -12,11 +12,11 @@ use lib.Dec.{leb}
 use lib.ListN.{length, take, getD, length-append}
 use lib.Seq.{take-suc, take-all}
 use borrow.Author.Tests.{le-leb}
-use Rattle.room.specs.Room.{copied}
-use Rattle.room.proofs.RoomLaws.{copied-behind, first-copied, none-copied}
+use Rattle.buffer.specs.Buffer.{copied}
+use Rattle.buffer.proofs.BufferLaws.{copied-behind, first-copied, none-copied}
 use Rattle.benchfile.specs.declared.sheet.Sheet.{Sheet}
 use Rattle.benchfile.specs.Sheet.{sheetText, longestSheet}
-use Rattle.benchfile.specs.Contents.{mostEntries}
+use Rattle.benchfile.specs.Toc.{mostEntries}
 use Rattle.report.specs.Sheets.{longestText}
 
 -- the texts of some sheets, one after the other
@@ -33,7 +33,7 @@ pub texts-next : (xs : List Sheet) (i : ℕ) (d : Sheet) → i < length xs → t
 unfolding flatMap
 texts-next xs i d h = rw (add-one i, take-suc xs i d h, texts-append (take i xs) (getD xs i d ∷ []), append-nil (sheetText (getD xs i d)))
 
--- The texts of the first i sheets are laid from the start of a room t, which is u now.
+-- The texts of the first i sheets are put at the start of a buffer t, which is u now.
 pub record Laid (xs : List Sheet) (i at : ℕ) (t u : List ℕ) : Type 0 where
   pub place : at ≡ length (texts (take i xs))
   pub short : at ≤ longestSheet * i

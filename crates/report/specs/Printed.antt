@@ -1,8 +1,8 @@
--- The claims about the functions that the program `sheet` calls: however a file is divided into reads, what they
--- print is `sheetsOf` of the file; and a file that is too long is refused. No contract can say what the program itself reads and writes. So read `sheetsOf`
--- (Sheets.antt), and see that `main` (crates/sheet/src/main.rt) starts with `Report::fresh`, hands every read to `take`,
--- stops only at the end of the file, where `is_refused` says so, or where `is_too_long` does, which comes to the same
--- (`LongRefused`), and prints what `write` writes. `freshReport`,
+-- Theorems about the functions that the program `sheet` calls: however a file is divided into reads, what they
+-- print is `sheetsOf` of the file; and a file that is too long is refused. No contract can say what the program
+-- itself reads and writes. So read `sheetsOf` (Sheets.antt), and see that `main` (crates/sheet/src/main.rt) starts with
+-- `Report::fresh`, hands every read to `take`, stops only at the end of the file, where `is_refused` says so, or where
+-- `is_too_long` does, which comes to the same (`LongRefused`), and prints what `write` writes. `freshReport`,
 -- `takeBytes`, `isRefused` and `printed` are what these four functions promise; how Step.antt defines them does not
 -- matter.
 use Prim.Native.Nat.{ℕ, _+_, _*_, _<_}
@@ -13,7 +13,7 @@ use mathlib.Core.List.{List, [], _++_, foldl, flatten}
 use lib.ListN.{length}
 use Rattle.framing.specs.Meaning.{Bytes}
 use Rattle.reader.specs.Refusal.{mostBytes}
-use Rattle.benchfile.specs.Contents.{mostEntries, longestContents}
+use Rattle.benchfile.specs.Toc.{mostEntries, longestToc}
 use Rattle.report.specs.declared.Report.{Report}
 use Rattle.report.specs.Sheets.{sheetsOf}
 use Rattle.report.specs.Step.{freshReport, takeBytes, isRefused, printed}
@@ -32,9 +32,9 @@ PrintedSheets =
     (reads : List (List ℕ)) (rest : List ℕ) → Bytes (flatten reads ++ rest) → Stopped reads rest
     → printed (afterReads reads) ≡ sheetsOf (flatten reads ++ rest)
 
--- the longest whole file: contents of 16 entries, and 16 bodies
+-- the longest whole file: a table of contents of 16 entries, and 16 captures
 abbrev pub longestFile : ℕ
-longestFile = longestContents + mostEntries * mostBytes
+longestFile = longestToc + mostEntries * mostBytes
 
 -- A report that took more bytes is refused: `main` need not read on.
 abbrev pub LongRefused : Type 0

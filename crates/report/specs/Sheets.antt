@@ -7,15 +7,15 @@ use lib.ListN.{length, take, drop}
 use Rattle.framing.specs.Format.{formatOf}
 use Rattle.framing.specs.Reading.{closing, read}
 use Rattle.benchfile.specs.declared.sheet.Sheet.{Sheet}
-use Rattle.benchfile.specs.Contents.{entries, formatAt, lengthAt, bodyStart, mostEntries, isWhole}
+use Rattle.benchfile.specs.Toc.{entries, formatAt, lengthAt, entryStart, mostEntries, isWholeFile}
 use Rattle.benchfile.specs.Sheet.{sheetText, longestSheet}
 use Rattle.tally.specs.Whole.{closingSheet}
 
--- the body of entry i, from 0
+-- the capture of entry i, from 0
 abbrev pub bodyAt : List ℕ → ℕ → List ℕ
-bodyAt s i = take (lengthAt s i) (drop (bodyStart s i) s)
+bodyAt s i = take (lengthAt s i) (drop (entryStart s i) s)
 
--- its sheet: that of the closing reading of its body
+-- its sheet: that of the closing reading of its capture
 unfoldable pub sheetAt : List ℕ → ℕ → Sheet
 sheetAt s i = closingSheet (formatAt s i) (read closing (formatOf (formatAt s i)) (bodyAt s i))
 
@@ -30,7 +30,7 @@ refusedText = 0x72 ∷ 0x65 ∷ 0x66 ∷ 0x75 ∷ 0x73 ∷ 0x65 ∷ 0x64 ∷ 0x2
 
 -- What is printed of a file. "A broken file prints only `refused 10`."
 unfoldable pub sheetsOf : List ℕ → List ℕ
-sheetsOf s = cond (isWhole s (length s)) (sheetTexts s (entries s)) refusedText
+sheetsOf s = cond (isWholeFile s (length s)) (sheetTexts s (entries s)) refusedText
 
 -- the most bytes that are printed of a file
 abbrev pub longestText : ℕ

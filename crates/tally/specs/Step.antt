@@ -4,38 +4,38 @@ use mathlib.Core.Bool.{cond}
 use mathlib.Core.List.{List}
 use lib.Dec.{eqb}
 use Rattle.reader.specs.declared.Outcome.{Outcome}
-use Rattle.reader.specs.State.{freshOf}
+use Rattle.reader.specs.State.{heldLength, freshOf}
 use Rattle.reader.specs.Refusal.{longestPiece}
-use Rattle.reader.specs.Calls.{Call, roomOf, Returned, serve}
+use Rattle.reader.specs.Calls.{Call, outOf, Returned, serve}
 use Rattle.benchfile.specs.declared.sheet.Sheet.{Sheet}
 use Rattle.tally.specs.declared.Tally.{Tally}
 
--- the room that takes every piece: as many bytes as a piece can have, and the 275 that can be pending
-abbrev pub pieceRoom : ℕ
-pieceRoom = 275 + longestPiece
+-- the output that takes every piece: as many bytes as can be pending, and as a piece can have (refusal 4)
+abbrev pub maxOutput : ℕ
+maxOutput = heldLength + longestPiece
 
 -- a fresh reader, and no frames
 unfoldable pub freshTally : ℕ → Tally
 freshTally n = record { answer = freshOf n .answer; frames = 0; reader = freshOf n .reader }
 
--- A tally as a call returns it, and the room.
+-- A tally as a call returns it, and the output.
 pub record Stepped : Type 0 where
   pub tally : Tally
-  pub room : List ℕ
+  pub out : List ℕ
 
 abbrev pub stepped : Tally → List ℕ → Stepped
-stepped t room = record { tally = t; room = room }
+stepped t out = record { tally = t; out = out }
 
 -- what the reader answered is taken over, and its frames are counted, within 32 bits
-abbrev pub after : Tally → Outcome → Tally
-after t o = record { answer = o .answer; frames = (t .frames + o .frames) % 2 ^ 32; reader = o .reader }
+abbrev pub afterOutcome : Tally → Outcome → Tally
+afterOutcome t o = record { answer = o .answer; frames = (t .frames + o .frames) % 2 ^ 32; reader = o .reader }
 
-abbrev pub counted : Tally → Returned → Stepped
-counted t g = stepped (after t (g .outcome)) (g .room)
+abbrev pub afterReturn : Tally → Returned → Stepped
+afterReturn t g = stepped (afterOutcome t (g .outcome)) (g .out)
 
 -- One call. After a refusal nothing is read any more: its number stays.
-unfoldable pub step : Tally → Call → Stepped
-step t c = cond (eqb (t .answer) 0) (counted t (serve (t .reader) c)) (stepped t (roomOf c))
+unfoldable pub tallyStep : Tally → Call → Stepped
+tallyStep t c = cond (eqb (t .answer) 0) (afterReturn t (serve (t .reader) c)) (stepped t (outOf c))
 
 -- the sheet's five numbers
 unfoldable pub sheetOf : Tally → Sheet

@@ -4,7 +4,7 @@ use reader::Outcome;
 use reader::Reader;
 ghost use mathlib.Core.Path.{_≡_};
 ghost use Rattle.reader.specs.Calls.{aPiece, aClose};
-ghost use Rattle.tally.specs.Step.{freshTally, stepped, after, step, sheetOf};
+ghost use Rattle.tally.specs.Step.{freshTally, stepped, afterOutcome, tallyStep, sheetOf};
 
 // The first refusal or 0, the frames so far, and the reader.
 pub struct Tally {
@@ -14,8 +14,8 @@ pub struct Tally {
 }
 
 impl Tally {
-    // The room that takes every piece of 4,096 bytes: a piece, and what can be pending.
-    pub const ROOM: usize = Reader::HELD + Reader::LONGEST_PIECE;
+    // The output that takes every piece of 4,096 bytes: a piece, and what can be pending.
+    pub const MAX_OUTPUT: usize = Reader::HELD + Reader::LONGEST_PIECE;
 
     // A tally of a fresh reader.
     pub fn fresh(format: u32) -> Tally
@@ -32,7 +32,7 @@ impl Tally {
 
     // The tally after a call that gave this outcome.
     fn counted(self, o: Outcome) -> Tally
-        ensures { λ t. ⌜ t ≡ after self o ⌝ }
+        ensures { λ t. ⌜ t ≡ afterOutcome self o ⌝ }
     {
         let reader = o.reader;
         Tally {
@@ -43,23 +43,23 @@ impl Tally {
     }
 
     // Reads a piece. After a refusal nothing is read any more.
-    pub fn piece(self, bytes: &[u8], room: &mut [u8]) -> Tally
-        ensures { λ t. ⌜ stepped t (now (room .exit)) ≡ step self (aPiece (now (bytes .entry)) (now (room .entry))) ⌝ }
+    pub fn piece(self, bytes: &[u8], out: &mut [u8]) -> Tally
+        ensures { λ t. ⌜ stepped t (now (out .exit)) ≡ tallyStep self (aPiece (now (bytes .entry)) (now (out .entry))) ⌝ }
     {
         if self.answer != 0 {
             return self;
         }
         let reader = self.reader;
-        self.counted(reader.piece(bytes, room))
+        self.counted(reader.piece(bytes, out))
     }
 
     // Ends the capture. After a refusal nothing is closed.
-    pub fn close(self, room: &mut [u8]) -> Tally
-        ensures { λ t. ⌜ stepped t (now (room .exit)) ≡ step self (aClose (now (room .entry))) ⌝ }
+    pub fn close(self, out: &mut [u8]) -> Tally
+        ensures { λ t. ⌜ stepped t (now (out .exit)) ≡ tallyStep self (aClose (now (out .entry))) ⌝ }
     {
         if self.answer == 0 {
             let reader = self.reader;
-            return self.counted(reader.close(room));
+            return self.counted(reader.close(out));
         }
         self
     }

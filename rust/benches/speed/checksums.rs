@@ -6,7 +6,7 @@ use crate::timing::medians;
 use crate::zlib;
 use std::hint::black_box;
 
-#[link(name = "checksum_c", kind = "static")]
+#[link(name = "checksum_capi", kind = "static")]
 extern "C" {
     fn checksum_crc32(bytes: *const u8, len: usize) -> u32;
     fn checksum_fletcher(bytes: *const u8, len: usize) -> u32;

@@ -1,5 +1,6 @@
-//! The readings of fields, hand-written: what a Rust programmer writes from docs/FORMATS.md who wants speed, without
-//! unsafe code. Checksums are those of the reader by hand; a faster Fletcher than its own is in `sums`. A reading is a function of a slice alone: it judges first that the slice is one whole frame.
+//! The field functions, hand-written: what a Rust programmer writes from docs/FORMATS.md who wants speed, without
+//! unsafe code. Checksums are those of the reader by hand; a faster Fletcher than its own is in `sums`. Each is a
+//! function of a slice alone: it judges first that the slice is one whole frame.
 
 pub mod mgl;
 pub mod nmea;

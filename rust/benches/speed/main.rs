@@ -38,7 +38,7 @@ fn main() {
     if chosen("checksums") {
         checksums::measure();
     }
-    // Before the readings: memory that this process holds counts in the peak of the sheet program.
+    // Before the field functions: memory that this process holds counts in the peak of the sheet program.
     if chosen("sheet") {
         sheet::measure(size);
     }

@@ -1,22 +1,22 @@
-//! Frames for the readings of fields.
+//! Frames for the field functions.
 
 use crate::captures::{damage, framed, Xorshift};
 use blossomaxle::Format;
 
-/// The frames that a row's readings accept.
+/// The frames that a row's functions accept.
 pub const FRAMES: usize = 4000;
 
 /// The content of a message, as `framed` takes it, with chance for its fields.
 pub type Maker = fn(&mut Xorshift) -> Vec<u8>;
 
-/// Frames that the readings of a message accept.
+/// Frames that the field functions of a message accept.
 pub fn good(format: Format, maker: Maker) -> Vec<Vec<u8>> {
     let mut rng = Xorshift::fresh();
     (0..FRAMES).map(|_| framed(format, &maker(&mut rng))).collect()
 }
 
-/// Frames that readings have to judge: three of four with changes in their content and the right checksum, and one of
-/// five of all damaged. Sentences at the limits follow, also with small letters for checksum digits.
+/// Frames that field functions have to judge: three of four with changes in their content and the right checksum,
+/// and one of five of all damaged. Sentences at the limits follow, also with small letters for checksum digits.
 pub fn doubtful(format: Format, maker: Maker) -> Vec<Vec<u8>> {
     let mut rng = Xorshift::fresh();
     let mut frame = || {

@@ -21,33 +21,33 @@ impl<F: Rules> Reader<F> {
         Reader { closed: false, framed: 0, skipped: 0, pending: 0, held: [0; HELD], rules: PhantomData }
     }
 
-    /// Lays the frames of a piece in the room and says how many bytes they have, or gives the refusal's number.
-    pub fn piece(&mut self, piece: &[u8], room: &mut [u8]) -> Result<usize, u32> {
-        self.judge(piece.len(), room.len())?;
+    /// Copies the frames of a piece to the output and says how many bytes they have, or gives the refusal's number.
+    pub fn piece(&mut self, piece: &[u8], out: &mut [u8]) -> Result<usize, u32> {
+        self.judge(piece.len(), out.len())?;
         let total = self.pending + piece.len();
         if self.pending > 0 && total <= HELD {
-            return Ok(self.lengthen(piece, room));
+            return Ok(self.lengthen(piece, out));
         }
         let (mut at, mut laid) = (0, 0);
         if self.pending > 0 {
             let (joint, len) = self.joint(piece);
-            (at, laid) = walk::<F>(&joint[..len], 0..self.pending, room, 0);
+            (at, laid) = walk::<F>(&joint[..len], 0..self.pending, out, 0);
             if at < self.pending {
                 return Ok(self.settle(total, laid, &joint[at..len]));
             }
             at -= self.pending;
         }
-        (at, laid) = walk::<F>(piece, at..piece.len(), room, laid);
+        (at, laid) = walk::<F>(piece, at..piece.len(), out, laid);
         Ok(self.settle(total, laid, &piece[at..]))
     }
 
     /// Ends the line: bytes that no frame ends are skipped one by one.
-    pub fn close(&mut self, room: &mut [u8]) -> Result<usize, u32> {
-        self.judge(0, room.len())?;
+    pub fn close(&mut self, out: &mut [u8]) -> Result<usize, u32> {
+        self.judge(0, out.len())?;
         let (held, total) = (self.held, self.pending);
         let (mut at, mut laid) = (0, 0);
         while at < total {
-            (at, laid) = walk::<F>(&held[..total], at..total, room, laid);
+            (at, laid) = walk::<F>(&held[..total], at..total, out, laid);
             at += 1;
         }
         self.closed = true;
@@ -55,26 +55,26 @@ impl<F: Rules> Reader<F> {
     }
 
     /// Framed, skipped and pending.
-    pub fn numbers(&self) -> [u32; 3] {
+    pub fn counts(&self) -> [u32; 3] {
         [self.framed, self.skipped, self.pending as u32]
     }
 
-    fn judge(&self, piece: usize, room: usize) -> Result<(), u32> {
+    fn judge(&self, piece: usize, out: usize) -> Result<(), u32> {
         let line = u64::from(self.framed) + u64::from(self.skipped) + (self.pending + piece) as u64;
         match () {
             _ if self.closed => Err(2),
             _ if piece > 4096 => Err(1),
             _ if line > u64::from(u32::MAX) => Err(3),
-            _ if room < self.pending + piece => Err(4),
+            _ if out < self.pending + piece => Err(4),
             _ => Ok(()),
         }
     }
 
     /// Reads a short piece behind the held bytes, where they are held.
-    fn lengthen(&mut self, piece: &[u8], room: &mut [u8]) -> usize {
+    fn lengthen(&mut self, piece: &[u8], out: &mut [u8]) -> usize {
         let total = self.pending + piece.len();
         self.held[self.pending..total].copy_from_slice(piece);
-        let (at, laid) = walk::<F>(&self.held[..total], 0..total, room, 0);
+        let (at, laid) = walk::<F>(&self.held[..total], 0..total, out, 0);
         if at > 0 {
             self.held.copy_within(at..total, 0);
         }
@@ -104,9 +104,9 @@ impl<F: Rules> Reader<F> {
     }
 }
 
-/// Lays the frames that begin in a part of the bytes behind those laid before, up to a start that needs more bytes.
-/// Gives the place where it stopped and the end of what is laid.
-fn walk<F: Rules>(bytes: &[u8], part: std::ops::Range<usize>, room: &mut [u8], mut laid: usize) -> (usize, usize) {
+/// Copies the frames that begin in a part of the bytes to the output, behind those copied before, up to a start that
+/// needs more bytes. Gives the place where it stopped and the end of what is copied.
+fn walk<F: Rules>(bytes: &[u8], part: std::ops::Range<usize>, out: &mut [u8], mut laid: usize) -> (usize, usize) {
     let mut at = part.start;
     while at < part.end {
         let Some(skipped) = bytes[at..part.end].iter().position(|byte| *byte == F::START) else {
@@ -115,7 +115,7 @@ fn walk<F: Rules>(bytes: &[u8], part: std::ops::Range<usize>, room: &mut [u8], m
         at += skipped;
         match F::look(&bytes[at..]) {
             Look::Frame(len) => {
-                room[laid..laid + len].copy_from_slice(&bytes[at..at + len]);
+                out[laid..laid + len].copy_from_slice(&bytes[at..at + len]);
                 (at, laid) = (at + len, laid + len);
             }
             Look::No => at += 1,

@@ -1,11 +1,11 @@
-//! The library's reader, the hand-written one and plain copying, on the same pieces in the same room.
+//! The library's reader, the hand-written one and plain copying, on the same pieces in the same output.
 
 use crate::captures::{self, Worst};
 use crate::plain;
 use crate::report::{self, Goal};
 use crate::rules::{Mgl, Nmea, OnFlight, Rules};
 use crate::timing::medians;
-use blossomaxle::{Reader, Refusal, ROOM};
+use blossomaxle::{Reader, Refusal, MAX_OUTPUT};
 use std::hint::black_box;
 
 /// So much is read of the worst lines, and of all in pieces of one byte.
@@ -56,8 +56,8 @@ fn goal(name: &str, piece: usize) -> Goal {
 
 /// The line that takes the library longest in pieces of this length, judged by a part of each.
 fn slowest<F: Rules>(lines: &[Worst], piece: usize) -> &Worst {
-    let mut room = [0; ROOM];
-    let mut seconds = |line: &[u8]| medians(1, |_| by_library::<F>(&line[..line.len() / 8], piece, &mut room))[0];
+    let mut out = [0; MAX_OUTPUT];
+    let mut seconds = |line: &[u8]| medians(1, |_| by_library::<F>(&line[..line.len() / 8], piece, &mut out))[0];
     let timed = lines.iter().map(|worst| (seconds(&worst.line), worst));
     timed.max_by(|(one, _), (other, _)| one.total_cmp(other)).expect("every format has a worst line").1
 }
@@ -65,11 +65,11 @@ fn slowest<F: Rules>(lines: &[Worst], piece: usize) -> &Worst {
 /// Bytes a second by the library, the hand-written reader and copying, after both readers were compared.
 fn speeds<F: Rules>(name: &str, line: &[u8], piece: usize) -> Vec<f64> {
     compare::<F>(name, line, piece);
-    let mut room = [0; ROOM];
+    let mut out = [0; MAX_OUTPUT];
     let times = medians(3, |task| match task {
-        0 => by_library::<F>(line, piece, &mut room),
-        1 => by_hand::<F>(line, piece, &mut room),
-        _ => by_copying(line, piece, &mut room),
+        0 => by_library::<F>(line, piece, &mut out),
+        1 => by_hand::<F>(line, piece, &mut out),
+        _ => by_copying(line, piece, &mut out),
     });
     times.iter().map(|time| line.len() as f64 / time).collect()
 }
@@ -78,45 +78,50 @@ fn fresh<F: Rules>() -> Reader {
     Reader::fresh(F::FORMAT).expect("the library knows the format")
 }
 
-fn by_library<F: Rules>(line: &[u8], piece: usize, room: &mut [u8; ROOM]) {
+fn by_library<F: Rules>(line: &[u8], piece: usize, out: &mut [u8; MAX_OUTPUT]) {
     let mut reader = fresh::<F>();
-    each(line, piece, room, |piece, room| reader.piece(piece, room));
+    each(line, piece, out, |piece, out| reader.piece(piece, out));
 }
 
-fn by_hand<F: Rules>(line: &[u8], piece: usize, room: &mut [u8; ROOM]) {
+fn by_hand<F: Rules>(line: &[u8], piece: usize, out: &mut [u8; MAX_OUTPUT]) {
     let mut reader = plain::Reader::<F>::fresh();
-    each(line, piece, room, |piece, room| reader.piece(piece, room));
+    each(line, piece, out, |piece, out| reader.piece(piece, out));
 }
 
-fn by_copying(line: &[u8], piece: usize, room: &mut [u8; ROOM]) {
-    each(line, piece, room, |piece, room| room[..piece.len()].copy_from_slice(piece));
+fn by_copying(line: &[u8], piece: usize, out: &mut [u8; MAX_OUTPUT]) {
+    each(line, piece, out, |piece, out| out[..piece.len()].copy_from_slice(piece));
 }
 
-/// Does the work on each piece; no answer and no room goes unused.
-fn each<T>(line: &[u8], piece: usize, room: &mut [u8; ROOM], mut work: impl FnMut(&[u8], &mut [u8; ROOM]) -> T) {
+/// Does the work on each piece; no answer and no output goes unused.
+fn each<T>(
+    line: &[u8],
+    piece: usize,
+    out: &mut [u8; MAX_OUTPUT],
+    mut work: impl FnMut(&[u8], &mut [u8; MAX_OUTPUT]) -> T,
+) {
     for piece in line.chunks(piece) {
-        black_box(work(piece, room));
-        black_box(&mut *room);
+        black_box(work(piece, out));
+        black_box(&mut *out);
     }
 }
 
-/// Stops the program unless both readers answer, lay and count the same at each piece and at the close.
+/// Stops the program unless both readers answer, copy and count the same at each piece and at the close.
 fn compare<F: Rules>(name: &str, line: &[u8], piece: usize) {
     let (mut library, mut written) = (fresh::<F>(), plain::Reader::<F>::fresh());
-    let (mut room, mut other) = ([0; ROOM], [0; ROOM]);
+    let (mut out, mut other) = ([0; MAX_OUTPUT], [0; MAX_OUTPUT]);
     for (i, bytes) in line.chunks(piece).map(Some).chain([None]).enumerate() {
         let answers = match bytes {
-            Some(bytes) => (library.piece(bytes, &mut room), written.piece(bytes, &mut other)),
-            None => (library.close(&mut room), written.close(&mut other)),
+            Some(bytes) => (library.piece(bytes, &mut out), written.piece(bytes, &mut other)),
+            None => (library.close(&mut out), written.close(&mut other)),
         };
-        let numbers = library.numbers();
+        let counts = library.counts();
         let same = answers.0.map_err(Refusal::number) == answers.1
-            && answers.1.is_ok_and(|laid| room[..laid] == other[..laid])
-            && [numbers.framed, numbers.skipped, numbers.pending] == written.numbers();
+            && answers.1.is_ok_and(|laid| out[..laid] == other[..laid])
+            && [counts.framed, counts.skipped, counts.pending] == written.counts();
         let format = F::FORMAT;
         assert!(
             same,
-            "{format:?} {name}, call {i} with pieces of {piece}: the readers differ: {answers:?}, {numbers:?}"
+            "{format:?} {name}, call {i} with pieces of {piece}: the readers differ: {answers:?}, {counts:?}"
         );
     }
 }

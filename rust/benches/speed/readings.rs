@@ -1,6 +1,6 @@
-//! The readings of fields: the library's, and hand-written ones of the same rules.
+//! The field functions: the library's, and hand-written ones of the same rules.
 //!
-//! Every reading with a row is compared on doubtful frames by itself. Without a row are `boot_time`, `elapsed`,
+//! Every function with a row is compared on doubtful frames by itself. Without a row are `boot_time`, `elapsed`,
 //! `input_voltage` and `load_factor` of OnFlight, and the three bodies: they judge like the others, and give one field
 //! or a part of the slice.
 
@@ -19,7 +19,7 @@ const PASSES: usize = 25;
 /// What the project wants of each row.
 const GOAL: f64 = 0.8;
 
-/// The answers of a reading that judges only the frame: 0, which is done, and its refusals.
+/// The answers of a function that judges only the frame: 0, which is done, and its refusals.
 const FRAME: &[u32] = &[0, 7];
 
 /// The answers of one that judges the message too.
@@ -31,7 +31,7 @@ const FIELD: &[u32] = &[0, 7, 8, 9];
 /// The answers of one that judges a field of the only message.
 const ONLY_FIELD: &[u32] = &[0, 7, 9];
 
-/// Measures the readings of every format.
+/// Measures the field functions of every format.
 pub fn measure() {
     report::readings_head(FRAMES);
     measure_mgl();
@@ -39,7 +39,7 @@ pub fn measure() {
     measure_nmea();
 }
 
-/// Compares each reading of a row by itself, and measures all together, as `library` and `hand` have them. `black_box`
+/// Compares each function of a row by itself, and measures all together, as `library` and `hand` have them. `black_box`
 /// hides that they have the same frame, so that each judges it.
 macro_rules! row {
     ($name:literal, $format:expr, $maker:path, $($reading:ident $answers:ident),+) => {
@@ -133,7 +133,7 @@ fn measure_nmea() {
     row!("PLARS setting", format, messages::plars, setting FIELD);
 }
 
-/// Measures a row on good frames. Its readings hide their frames from the compiler.
+/// Measures a row on good frames. Its functions hide their frames from the compiler.
 fn time<T: PartialEq + Debug>(
     name: &str,
     frames: &[Vec<u8>],
@@ -151,7 +151,7 @@ fn repeat<T>(frames: &[Vec<u8>], readings: impl Fn(&[u8]) -> T) {
     }
 }
 
-/// Stops the program unless both readings answer the same of every frame, and give each of the expected answers.
+/// Stops the program unless both functions answer the same of every frame, and give each of the expected answers.
 fn compare<T: PartialEq + Debug>(
     name: &str,
     frames: &[Vec<u8>],
@@ -166,7 +166,7 @@ fn expect(name: &str, given: BTreeSet<u32>, expected: &[u32]) {
     assert!(given.iter().eq(expected), "{name}: the doubtful frames give {given:?}, and not {expected:?}");
 }
 
-/// Stops the program unless both readings answer the same of every frame. Says which numbers they answer.
+/// Stops the program unless both functions answer the same of every frame. Says which numbers they answer.
 fn answers<T: PartialEq + Debug>(
     name: &str,
     frames: &[Vec<u8>],

@@ -78,14 +78,14 @@ fn program() -> PathBuf {
 fn write(path: PathBuf, size: usize, times: usize) -> io::Result<Bench> {
     let captures = Format::ALL.map(|format| captures::clean(format, size));
     let lengths = captures.each_ref().map(|capture| capture.len() * times);
-    let mut contents = vec![Format::ALL.len() as u8];
+    let mut toc = vec![Format::ALL.len() as u8];
     for (format, length) in Format::ALL.into_iter().zip(lengths) {
         let length = u32::try_from(length).expect("an entry's length has four bytes");
-        contents.extend([format.number() as u8, 0]);
-        contents.extend(length.to_le_bytes());
+        toc.extend([format.number() as u8, 0]);
+        toc.extend(length.to_le_bytes());
     }
     let mut file = File::create(&path)?;
-    file.write_all(&contents)?;
+    file.write_all(&toc)?;
     for capture in captures {
         for _ in 0..times {
             file.write_all(&capture)?;
@@ -94,7 +94,7 @@ fn write(path: PathBuf, size: usize, times: usize) -> io::Result<Bench> {
     // No writing to the disk goes on while the rounds do.
     file.sync_all()?;
     let lines = lengths.iter().map(|length| format!("framed {length}\nskipped 0\npending 0\n")).collect();
-    Ok(Bench { path, size: contents.len() + lengths.iter().sum::<usize>(), lines })
+    Ok(Bench { path, size: toc.len() + lengths.iter().sum::<usize>(), lines })
 }
 
 fn run_sheet(bench: &Bench) {

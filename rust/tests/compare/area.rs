@@ -9,14 +9,14 @@ pub struct Area {
 }
 
 impl Area {
-    /// A room of so many bytes, filled like its guards.
-    pub fn room(length: usize, fill: u8) -> Area {
+    /// An output of so many bytes, filled like its guards.
+    pub fn out(length: usize, fill: u8) -> Area {
         Area { bytes: vec![fill; length + 2 * GUARD], fill }
     }
 
     /// Bytes to be changed in place.
     pub fn holding(content: &[u8], fill: u8) -> Area {
-        let mut area = Area::room(content.len(), fill);
+        let mut area = Area::out(content.len(), fill);
         area.lent().copy_from_slice(content);
         area
     }

@@ -1,4 +1,4 @@
-//! The contents of bench files.
+//! The tables of contents of bench files.
 
 use crate::generate::prng::Prng;
 use crate::oracle::{answer::Answer, bench};
@@ -48,22 +48,22 @@ fn some_file(rng: &mut Prng) -> (Vec<u8>, u64) {
         first.extend(length.to_le_bytes());
         file_len += u64::from(length);
     }
-    let contents = first.len();
+    let toc = first.len();
     if rng.one_in(2) {
-        let more = file_len.min(700) as usize - contents.min(file_len.min(700) as usize);
+        let more = file_len.min(700) as usize - toc.min(file_len.min(700) as usize);
         let bodies = rng.length(more + 1);
         first.extend(rng.bytes(bodies));
     }
-    spoil(rng, &mut first, &mut file_len, contents);
+    spoil(rng, &mut first, &mut file_len, toc);
     (first, file_len)
 }
 
 /// Perhaps one thing wrong, or more bytes than the file has.
-fn spoil(rng: &mut Prng, first: &mut Vec<u8>, file_len: &mut u64, contents: usize) {
+fn spoil(rng: &mut Prng, first: &mut Vec<u8>, file_len: &mut u64, toc: usize) {
     match rng.below(14) {
         0 => first[0] = rng.pick(&[0, 17, 255, first[0] + 1, first[0].saturating_sub(1)]),
-        1 => first.truncate(rng.length(contents)),
-        2 if contents > 1 => first[1 + 6 * rng.length((contents - 1) / 6)] = rng.pick(&[0, 4, 255]),
+        1 => first.truncate(rng.length(toc)),
+        2 if toc > 1 => first[1 + 6 * rng.length((toc - 1) / 6)] = rng.pick(&[0, 4, 255]),
         3 => *file_len = file_len.wrapping_add(rng.pick(&[1, u64::MAX, 1 << 32, 6])),
         4 => *file_len = rng.pick(&[0, 1, 7, u64::MAX, first.len() as u64]),
         5 => {

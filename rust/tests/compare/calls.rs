@@ -22,23 +22,23 @@ pub fn fresh(run: &mut Run, format: u32, before: &[u8]) -> Vec<u8> {
 }
 
 /// A call on the reader in the bytes, which are then those that it leaves.
-pub fn serve(run: &mut Run, bytes: &mut Vec<u8>, call: Call, room: usize) -> Outcome {
-    let expected = reader::serve(bytes, call, room);
+pub fn serve(run: &mut Run, bytes: &mut Vec<u8>, call: Call, out: usize) -> Outcome {
+    let expected = reader::serve(bytes, call, out);
     let given = [
         Given::Bytes("reader", bytes),
         Given::Bytes("piece", call.bytes()),
         Given::Number("close", matches!(call, Call::Close).into()),
-        Given::Number("room", room as i64),
+        Given::Number("output", out as i64),
     ];
     let fill = run.rng.byte();
     let mut lent_reader = Area::holding(bytes, fill);
-    let mut lent_room = Area::room(room, fill);
-    let number = raw::call(lent_reader.lent(), call, lent_room.lent());
+    let mut lent_out = Area::out(out, fill);
+    let number = raw::call(lent_reader.lent(), call, lent_out.lent());
     run.same("the answer of a call", &given, number, expected.number);
     run.same_bytes("the reader after a call", &given, lent_reader.whole(), &lent_reader.expected(&expected.reader));
-    run.same_bytes("the room after a call", &given, lent_room.whole(), &lent_room.expected(&expected.handed));
+    run.same_bytes("the output after a call", &given, lent_out.whole(), &lent_out.expected(&expected.handed));
     if run.rng.one_in(4) {
-        serve_typed(run, &given, bytes, call, &expected, room);
+        serve_typed(run, &given, bytes, call, &expected, out);
     }
     count(run, bytes, call, &expected);
     bytes.clone_from(&expected.reader);
@@ -46,13 +46,13 @@ pub fn serve(run: &mut Run, bytes: &mut Vec<u8>, call: Call, room: usize) -> Out
 }
 
 /// The same call once more, by the typed reader.
-fn serve_typed(run: &mut Run, given: &[Given], bytes: &[u8], call: Call, expected: &Outcome, room: usize) {
-    let mut lent_room = Area::room(room, run.rng.byte());
-    let (answer, after) = typed::serve(bytes, call, lent_room.lent());
+fn serve_typed(run: &mut Run, given: &[Given], bytes: &[u8], call: Call, expected: &Outcome, out: usize) {
+    let mut lent_out = Area::out(out, run.rng.byte());
+    let (answer, after) = typed::serve(bytes, call, lent_out.lent());
     let wanted = if expected.number == 0 { Ok(expected.handed.len()) } else { Err(expected.number) };
     run.same("the answer of a typed call", given, answer, wanted);
     run.same_bytes("the typed reader after a call", given, &after, &expected.reader);
-    run.same_bytes("the room after a typed call", given, lent_room.whole(), &lent_room.expected(&expected.handed));
+    run.same_bytes("the output after a typed call", given, lent_out.whole(), &lent_out.expected(&expected.handed));
     run.tally.call("typed reader", expected.number, call.bytes().len());
 }
 

@@ -3,7 +3,7 @@
 use crate::calls;
 use crate::generate;
 use crate::oracle::machine::Machine;
-use crate::oracle::reader::{Call, State, LONGEST_PIECE};
+use crate::oracle::reader::{Call, State, HELD, LEN, LONGEST_PIECE};
 use crate::oracle::shape::is_frame;
 use crate::oracle::FORMATS;
 use crate::run::{Given, Run};
@@ -85,7 +85,7 @@ fn long_line(run: &mut Run, format: u32) {
 
 impl<'a> Line<'a> {
     fn fresh(run: &'a mut Run, format: u32, each: bool) -> Line<'a> {
-        let before = vec![run.rng.byte(); 295];
+        let before = vec![run.rng.byte(); LEN];
         let reader = calls::fresh(run, format, &before);
         run.tally.add("lists of calls, format", format, 1);
         Line { run, format, reader, machine: Machine::new(format), handed: vec![], frames: 0, each }
@@ -115,18 +115,18 @@ impl<'a> Line<'a> {
         }
     }
 
-    /// A piece with a room that is just enough, or somewhat more.
+    /// A piece with an output that is just enough, or somewhat more.
     fn piece(&mut self, piece: &[u8]) {
-        let room = self.needed(piece.len()) + self.more();
-        self.call(Call::Piece(piece), room);
+        let out = self.needed(piece.len()) + self.more();
+        self.call(Call::Piece(piece), out);
     }
 
     fn close(&mut self) {
-        let room = self.needed(0) + self.more();
-        self.call(Call::Close, room);
+        let out = self.needed(0) + self.more();
+        self.call(Call::Close, out);
     }
 
-    /// A call that is refused: a piece that is too long, a room that is too small, or anything after the close.
+    /// A call that is refused: a piece that is too long, an output that is too small, or anything after the close.
     fn nuisance(&mut self) {
         let rng = &mut self.run.rng;
         let too_long = rng.one_in(3);
@@ -135,15 +135,15 @@ impl<'a> Line<'a> {
         let call = if !too_long && rng.one_in(3) { Call::Close } else { Call::Piece(&piece) };
         let needed = self.needed(call.bytes().len());
         let rng = &mut self.run.rng;
-        let room = if too_long && rng.one_in(2) { needed } else { rng.length(needed.max(1)) };
-        if too_long || room < needed || self.state().closed {
-            self.call(call, room);
+        let out = if too_long && rng.one_in(2) { needed } else { rng.length(needed.max(1)) };
+        if too_long || out < needed || self.state().closed {
+            self.call(call, out);
         }
     }
 
-    fn call(&mut self, call: Call, room: usize) {
-        let judged = self.each.then(|| self.machine.judge(call, room));
-        let outcome = calls::serve(self.run, &mut self.reader, call, room);
+    fn call(&mut self, call: Call, out: usize) {
+        let judged = self.each.then(|| self.machine.judge(call, out));
+        let outcome = calls::serve(self.run, &mut self.reader, call, out);
         if let Some(judged) = judged {
             let given = [Given::Bytes("delivered", self.machine.delivered()), Given::Bytes("piece", call.bytes())];
             self.run.same("the machine's answer", &given, outcome.number, judged);
@@ -158,7 +158,7 @@ impl<'a> Line<'a> {
         }
     }
 
-    /// Numbers and frames are those of the machine's reading of all bytes.
+    /// Counts and frames are those of the machine's reading of all bytes.
     fn check(&self) {
         let reading = self.machine.reading();
         let state = self.state();
@@ -174,7 +174,7 @@ impl<'a> Line<'a> {
     }
 
     fn state(&self) -> State {
-        State::decode(&self.reader).expect("a reader has 295 bytes")
+        State::decode(&self.reader).expect("as many bytes as a reader has")
     }
 
     fn needed(&self, piece: usize) -> usize {
@@ -183,7 +183,7 @@ impl<'a> Line<'a> {
 
     fn more(&mut self) -> usize {
         match self.run.rng.below(16) {
-            0 => 4371,
+            0 => HELD + LONGEST_PIECE,
             1..=4 => self.run.rng.length(20),
             _ => 0,
         }

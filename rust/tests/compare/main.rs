@@ -10,6 +10,7 @@ mod bench;
 mod calls;
 #[path = "../../src/ffi.rs"]
 mod ffi;
+mod fields;
 mod frames;
 #[path = "../generate/mod.rs"]
 mod generate;
@@ -17,7 +18,6 @@ mod lines;
 #[path = "../oracle/mod.rs"]
 mod oracle;
 mod raw;
-mod readings;
 mod run;
 mod states;
 mod tally;
@@ -54,7 +54,7 @@ fn one_round(run: &mut Run) {
     lines::compare(run);
     states::compare(run);
     frames::compare(run);
-    readings::compare(run);
+    fields::compare(run);
     writers::compare(run);
     bench::compare(run);
 }

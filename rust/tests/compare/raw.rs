@@ -32,9 +32,9 @@ pub fn fresh(format: u32, reader: &mut [u8]) -> u32 {
     unsafe { ffi::capture_fresh(format, lend_mut(reader), reader.len()) }
 }
 
-pub fn call(reader: &mut [u8], call: Call, room: &mut [u8]) -> u32 {
+pub fn call(reader: &mut [u8], call: Call, out: &mut [u8]) -> u32 {
     let (reader, reader_len) = (lend_mut(reader), reader.len());
-    let (out, out_len) = (lend_mut(room), room.len());
+    let (out, out_len) = (lend_mut(out), out.len());
     // SAFETY: the slices are initialised, and no two of them overlap.
     match call {
         Call::Piece(piece) => unsafe { ffi::capture_piece(reader, reader_len, lend(piece), piece.len(), out, out_len) },
@@ -47,15 +47,15 @@ pub fn frame_len(format: u32, bytes: &[u8]) -> usize {
     unsafe { ffi::capture_frame_len(format, lend(bytes), bytes.len()) }
 }
 
-pub fn read(reading: u32, item: u32, frame: &[u8]) -> Answer {
+pub fn read(function: u32, item: u32, frame: &[u8]) -> Answer {
     // SAFETY: the slice is initialised and only read.
-    answer(unsafe { ffi::capture_read(reading, item, lend(frame), frame.len()) })
+    answer(unsafe { ffi::capture_read(function, item, lend(frame), frame.len()) })
 }
 
 /// The number, and the bits of the float.
-pub fn ratio(reading: u32, frame: &[u8]) -> (u32, u64) {
+pub fn ratio(function: u32, frame: &[u8]) -> (u32, u64) {
     // SAFETY: the slice is initialised and only read.
-    let ratio = unsafe { ffi::capture_ratio(reading, lend(frame), frame.len()) };
+    let ratio = unsafe { ffi::capture_ratio(function, lend(frame), frame.len()) };
     (ratio.number, ratio.value.to_bits())
 }
 
@@ -74,15 +74,15 @@ pub fn write_gyro(rate: i32) -> Answer {
     answer(unsafe { ffi::capture_write_gyro(rate) })
 }
 
-pub fn write(format: u32, header: u32, body: &[u8], room: &mut [u8]) -> (u32, usize) {
+pub fn write(format: u32, header: u32, body: &[u8], out: &mut [u8]) -> (u32, usize) {
     // SAFETY: the slices are initialised and do not overlap.
-    let written = unsafe { ffi::capture_write(format, header, lend(body), body.len(), lend_mut(room), room.len()) };
+    let written = unsafe { ffi::capture_write(format, header, lend(body), body.len(), lend_mut(out), out.len()) };
     (written.number, written.length)
 }
 
-pub fn write_setting(source: u8, parameter: u8, value: u32, room: &mut [u8]) -> (u32, usize) {
-    // SAFETY: the room is initialised and lent to this call alone.
-    let written = unsafe { ffi::capture_write_setting(source, parameter, value, lend_mut(room), room.len()) };
+pub fn write_setting(source: u8, parameter: u8, value: u32, out: &mut [u8]) -> (u32, usize) {
+    // SAFETY: the output is initialised and lent to this call alone.
+    let written = unsafe { ffi::capture_write_setting(source, parameter, value, lend_mut(out), out.len()) };
     (written.number, written.length)
 }
 

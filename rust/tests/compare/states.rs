@@ -2,7 +2,7 @@
 
 use crate::calls;
 use crate::generate::{self, prng::Prng};
-use crate::oracle::reader::{Call, State, LEN, MOST};
+use crate::oracle::reader::{Call, State, HELD, HELD_AT, LEN, MOST};
 use crate::oracle::shape::{shape, Shape};
 use crate::oracle::FORMATS;
 use crate::run::Run;
@@ -43,7 +43,7 @@ fn other_length(rng: &mut Prng) -> Vec<u8> {
     bytes
 }
 
-/// A reader with bytes pending and any numbers.
+/// A reader with bytes pending and any counts.
 fn real(rng: &mut Prng) -> State {
     let format = rng.pick(&FORMATS);
     let length = rng.length(400);
@@ -68,7 +68,7 @@ fn start_in(rng: &mut Prng, format: u32, bytes: &[u8]) -> Vec<u8> {
     bytes[from..from + length].to_vec()
 }
 
-/// A reader whose numbers are together at the limit, or a little below or over.
+/// A reader whose counts are together at the limit, or a little below or over.
 fn near_limit(rng: &mut Prng) -> State {
     let mut state = real(rng);
     let below = rng.pick(&[0, 0, 1, 2, 10, 4096]);
@@ -94,7 +94,7 @@ fn changed(rng: &mut Prng) -> State {
         3 => state.pending = rng.pick(&[1, 80, 81, 82, 157, 158, 274, 275, 276, 1000, u32::MAX]),
         4 => state.pending = state.pending.saturating_add(rng.pick(&[1, 2])),
         5 => {
-            let beyond = rng.length(276 - state.held.len().min(275));
+            let beyond = rng.length(HELD + 1 - state.held.len().min(HELD));
             state.held.extend(rng.bytes(beyond));
         }
         _ if !state.held.is_empty() => {
@@ -103,7 +103,7 @@ fn changed(rng: &mut Prng) -> State {
         }
         _ => state.skipped = u32::MAX,
     }
-    state.held.truncate(275);
+    state.held.truncate(HELD);
     state
 }
 
@@ -113,13 +113,13 @@ fn byte_changed(rng: &mut Prng) -> Vec<u8> {
     let at = match rng.below(4) {
         0 => rng.length(LEN),
         1 => 4 + rng.length(4),
-        _ => rng.length(20),
+        _ => rng.length(HELD_AT),
     };
     bytes[at] = rng.byte();
     bytes
 }
 
-/// A piece or a close, with a room about as large as it has to be.
+/// A piece or a close, with an output about as large as it has to be.
 fn any_call(run: &mut Run, reader: &mut Vec<u8>) {
     let rng = &mut run.rng;
     let (format, pending) = State::decode(reader).map_or((1, 0), |state| (state.format, state.pending.min(300)));
@@ -131,12 +131,12 @@ fn any_call(run: &mut Run, reader: &mut Vec<u8>) {
     }
     let call = if rng.one_in(3) { Call::Close } else { Call::Piece(&piece) };
     let needed = pending as usize + call.bytes().len();
-    let room = match rng.below(4) {
+    let out = match rng.below(4) {
         0 => (needed + rng.length(3)).saturating_sub(1),
         1 => rng.length(needed + 1),
         _ => needed,
     };
-    calls::serve(run, reader, call, room);
+    calls::serve(run, reader, call, out);
 }
 
 /// Counts by which of refusal 11's reasons the bytes are no reader.

@@ -61,7 +61,7 @@ const EXPECTED: &[(&str, &[u32])] = &[
     ("RMC position", &[0, 7, 8, 9]),
     ("RMC status", &[0, 7, 8, 9]),
     ("PLARS setting", &[0, 7, 8, 9]),
-    ("unknown reading", &[7]),
+    ("unknown field function", &[7]),
     ("MGL clock says", &[0, 1, 2, 3, 4, 5, 6, 7]),
     ("OnFlight clock says", &[0, 1, 2, 3, 4, 5, 6]),
     ("RMC clock says", &[0, 1, 2, 3, 4, 5, 6]),

@@ -1,6 +1,6 @@
 //! The same calls by the crate's typed functions, flattened to numbers again.
 
-use crate::ffi::{ratio, reading};
+use crate::ffi::{function, ratio};
 use crate::oracle::answer::Answer;
 use crate::oracle::reader::Call;
 use blossomaxle::nmea::{Parameter, Setting, Source};
@@ -27,14 +27,14 @@ pub fn fresh(format: u32) -> Result<Vec<u8>, u32> {
 }
 
 /// A call, and the reader's bytes afterwards.
-pub fn serve(bytes: &[u8], call: Call, room: &mut [u8]) -> (Result<usize, u32>, Vec<u8>) {
+pub fn serve(bytes: &[u8], call: Call, out: &mut [u8]) -> (Result<usize, u32>, Vec<u8>) {
     let mut reader = match Reader::from_bytes(bytes) {
         Ok(reader) => reader,
         Err(refusal) => return (Err(refusal.number()), bytes.to_vec()),
     };
     let answer = match call {
-        Call::Piece(piece) => reader.piece(piece, room),
-        Call::Close => reader.close(room),
+        Call::Piece(piece) => reader.piece(piece, out),
+        Call::Close => reader.close(out),
     };
     (answer.map_err(Refusal::number), reader.as_bytes().to_vec())
 }
@@ -49,65 +49,65 @@ pub fn frame_len(format: u32, bytes: &[u8]) -> usize {
     blossomaxle::frame_len(Format::from_number(format).expect("a known format"), bytes).unwrap_or(0)
 }
 
-/// The reading with a number, if the crate has one.
-pub fn read(reading: u32, item: u32, frame: &[u8]) -> Option<Answer> {
-    Some(match reading {
-        100..200 => read_mgl(reading, item, frame)?,
-        200..300 => read_onflight(reading, frame)?,
-        _ => read_nmea(reading, frame)?,
+/// The field function with a number, if the crate has one.
+pub fn read(function: u32, item: u32, frame: &[u8]) -> Option<Answer> {
+    Some(match function {
+        100..200 => read_mgl(function, item, frame)?,
+        200..300 => read_onflight(function, frame)?,
+        _ => read_nmea(function, frame)?,
     })
 }
 
-fn read_mgl(reading: u32, item: u32, frame: &[u8]) -> Option<Answer> {
-    Some(match reading {
-        reading::MGL_BODY => place(mgl::body(frame), frame),
-        reading::MGL_HEADER => flat(mgl::header(frame), |header| {
-            vec![header.message.into(), header.rate.into(), header.count.into(), header.version.into()]
+fn read_mgl(function: u32, item: u32, frame: &[u8]) -> Option<Answer> {
+    Some(match function {
+        function::MGL_BODY => place(mgl::body(frame), frame),
+        function::MGL_HEADER => flat(mgl::header(frame), |header| {
+            vec![header.message_type.into(), header.rate.into(), header.count.into(), header.version.into()]
         }),
-        reading::MGL_GPS => flat(mgl::gps(frame), gps_values),
-        reading::MGL_FUEL_COUNT => one(mgl::fuel_count(frame)),
-        reading::MGL_FUEL_TANK => flat(mgl::fuel_tank(frame, item), |tank| {
+        function::MGL_GPS => flat(mgl::gps(frame), gps_values),
+        function::MGL_FUEL_COUNT => one(mgl::fuel_count(frame)),
+        function::MGL_FUEL_TANK => flat(mgl::fuel_tank(frame, item), |tank| {
             vec![tank.level.into(), tank.kind.into(), tank.on.into(), tank.sensors.into()]
         }),
-        reading::MGL_CLOCK => flat(mgl::clock(frame), clock_values),
+        function::MGL_CLOCK => flat(mgl::clock(frame), clock_values),
         _ => return None,
     })
 }
 
-fn read_onflight(reading: u32, frame: &[u8]) -> Option<Answer> {
+fn read_onflight(function: u32, frame: &[u8]) -> Option<Answer> {
     let axes = |axes: onflight::Axes| vec![axes.x.into(), axes.y.into(), axes.z.into()];
     let position = |at: onflight::Position| vec![at.latitude.into(), at.longitude.into()];
-    Some(match reading {
-        reading::ONFLIGHT_BODY => place(onflight::body(frame), frame),
-        reading::ONFLIGHT_STATUS => flat(onflight::status(frame), |bytes| bytes.map(i64::from).to_vec()),
-        reading::ONFLIGHT_SET_BITS => one(onflight::set_bits(frame)),
-        reading::ONFLIGHT_BOOT_TIME => one(onflight::boot_time(frame)),
-        reading::ONFLIGHT_CLOCK => flat(onflight::clock(frame), clock_values),
-        reading::ONFLIGHT_VOLTAGES => {
+    Some(match function {
+        function::ONFLIGHT_BODY => place(onflight::body(frame), frame),
+        function::ONFLIGHT_STATUS => flat(onflight::status(frame), |bytes| bytes.map(i64::from).to_vec()),
+        function::ONFLIGHT_SET_BITS => one(onflight::set_bits(frame)),
+        function::ONFLIGHT_BOOT_TIME => one(onflight::boot_time(frame)),
+        function::ONFLIGHT_CLOCK => flat(onflight::clock(frame), clock_values),
+        function::ONFLIGHT_VOLTAGES => {
             flat(onflight::voltages(frame), |both| vec![both.input.into(), both.filtered.into()])
         }
-        reading::ONFLIGHT_ACCELERATIONS => flat(onflight::accelerations(frame), axes),
-        reading::ONFLIGHT_GYROS => flat(onflight::gyros(frame), axes),
-        reading::ONFLIGHT_PRESSURE => one(onflight::pressure(frame)),
-        reading::ONFLIGHT_FIX => flat(onflight::fix(frame), |fix| vec![fix.fix.into(), fix.satellites.into()]),
-        reading::ONFLIGHT_GNSS_POSITION => flat(onflight::gnss_position(frame), position),
-        reading::ONFLIGHT_INS_POSITION => flat(onflight::ins_position(frame), position),
-        reading::ONFLIGHT_GNSS_ALTITUDE => one(onflight::gnss_altitude(frame)),
-        reading::ONFLIGHT_INS_ALTITUDE => one(onflight::ins_altitude(frame)),
+        function::ONFLIGHT_ACCELERATIONS => flat(onflight::accelerations(frame), axes),
+        function::ONFLIGHT_GYROS => flat(onflight::gyros(frame), axes),
+        function::ONFLIGHT_PRESSURE => one(onflight::pressure(frame)),
+        function::ONFLIGHT_FIX => flat(onflight::fix(frame), |fix| vec![fix.fix.into(), fix.satellites.into()]),
+        function::ONFLIGHT_GNSS_POSITION => flat(onflight::gnss_position(frame), position),
+        function::ONFLIGHT_INS_POSITION => flat(onflight::ins_position(frame), position),
+        function::ONFLIGHT_GNSS_ALTITUDE => one(onflight::gnss_altitude(frame)),
+        function::ONFLIGHT_INS_ALTITUDE => one(onflight::ins_altitude(frame)),
         _ => return None,
     })
 }
 
-fn read_nmea(reading: u32, frame: &[u8]) -> Option<Answer> {
-    Some(match reading {
-        reading::NMEA_BODY => place(nmea::body(frame), frame),
-        reading::RMC_CLOCK => flat(nmea::rmc_clock(frame), clock_values),
-        reading::RMC_POSITION => flat(nmea::rmc_position(frame), |at| vec![at.latitude.into(), at.longitude.into()]),
-        reading::RMC_STATUS => flat(nmea::rmc_status(frame), |status| match status {
+fn read_nmea(function: u32, frame: &[u8]) -> Option<Answer> {
+    Some(match function {
+        function::NMEA_BODY => place(nmea::body(frame), frame),
+        function::RMC_CLOCK => flat(nmea::rmc_clock(frame), clock_values),
+        function::RMC_POSITION => flat(nmea::rmc_position(frame), |at| vec![at.latitude.into(), at.longitude.into()]),
+        function::RMC_STATUS => flat(nmea::rmc_status(frame), |status| match status {
             nmea::Status::Valid => vec![b'A'.into()],
             nmea::Status::Warning => vec![b'V'.into()],
         }),
-        reading::PLARS_SETTING => flat(nmea::setting(frame), setting_values),
+        function::PLARS_SETTING => flat(nmea::setting(frame), setting_values),
         _ => return None,
     })
 }
@@ -175,23 +175,23 @@ pub fn is_setting(source: u8, parameter: u8) -> bool {
     setting(source, parameter, 0).is_some()
 }
 
-pub fn write_setting(source: u8, parameter: u8, value: u32, room: &mut [u8]) -> (u32, usize) {
+pub fn write_setting(source: u8, parameter: u8, value: u32, out: &mut [u8]) -> (u32, usize) {
     let setting = setting(source, parameter, value).expect("a source and a parameter that there are");
-    length(nmea::write_setting(setting, room))
+    length(nmea::write_setting(setting, out))
 }
 
-pub fn write(format: u32, header: u32, body: &[u8], room: &mut [u8]) -> (u32, usize) {
-    let [message, rate, count, version] = header.to_le_bytes();
+pub fn write(format: u32, header: u32, body: &[u8], out: &mut [u8]) -> (u32, usize) {
+    let [message_type, rate, count, version] = header.to_le_bytes();
     length(match Format::from_number(format).expect("a known format") {
-        Format::Mgl => mgl::write(mgl::Header { message, rate, count, version }, body, room),
-        Format::OnFlight => onflight::write(body, room),
-        Format::Nmea => nmea::write(body, room),
+        Format::Mgl => mgl::write(mgl::Header { message_type, rate, count, version }, body, out),
+        Format::OnFlight => onflight::write(body, out),
+        Format::Nmea => nmea::write(body, out),
     })
 }
 
-/// The float reading with a number, if the crate has one.
-pub fn ratio(reading: u32, frame: &[u8]) -> Option<Result<f64, u32>> {
-    let answer = match reading {
+/// The field function with a number, of those that answer a float, if the crate has one.
+pub fn ratio(function: u32, frame: &[u8]) -> Option<Result<f64, u32>> {
+    let answer = match function {
         ratio::ONFLIGHT_INPUT_VOLTAGE => onflight::input_voltage(frame),
         ratio::ONFLIGHT_LOAD_FACTOR => onflight::load_factor(frame),
         _ => return None,

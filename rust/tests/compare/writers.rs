@@ -48,7 +48,7 @@ fn write_gyro(run: &mut Run, rate: i32) {
     run.tally.call("write gyro", expected.number, 0);
 }
 
-/// A body that is mostly in form, and a room about as large as the frame.
+/// A body that is mostly in form, and an output about as large as the frame.
 fn any_frame(run: &mut Run) {
     let rng = &mut run.rng;
     let format = if rng.one_in(12) { rng.pick(&[0, 4, 257, u32::MAX]) } else { rng.pick(&FORMATS) };
@@ -71,8 +71,8 @@ fn any_frame(run: &mut Run) {
     }
     let header = if rng.one_in(8) { 0 } else { rng.next() as u32 };
     let frame = size + rng.pick(&[12, 6, 6, 0, 24]);
-    let room = if rng.one_in(3) { (frame + rng.length(3)).saturating_sub(1) } else { frame };
-    write(run, format, header, &body, room);
+    let out = if rng.one_in(3) { (frame + rng.length(3)).saturating_sub(1) } else { frame };
+    write(run, format, header, &body, out);
 }
 
 /// The content of a good frame, written: the same frame, or refusal 5.
@@ -89,23 +89,23 @@ fn frame_again(run: &mut Run) {
     write(run, format, header, body, frame.len());
 }
 
-fn write(run: &mut Run, format: u32, header: u32, body: &[u8], room: usize) {
-    let expected = writer::write(format, header, body, room);
+fn write(run: &mut Run, format: u32, header: u32, body: &[u8], out: usize) {
+    let expected = writer::write(format, header, body, out);
     let given = [
         Given::Number("format", format.into()),
         Given::Number("header", header.into()),
         Given::Bytes("body", body),
-        Given::Number("room", room as i64),
+        Given::Number("output", out as i64),
     ];
     let name = ["write MGL", "write OnFlight", "write NMEA"].get((format as usize).wrapping_sub(1));
     let name = name.copied().unwrap_or("write unknown format");
-    written(run, name, &given, room, &expected, |room| raw::write(format, header, body, room));
+    written(run, name, &given, out, &expected, |out| raw::write(format, header, body, out));
     if FORMATS.contains(&format) {
-        written(run, name, &given, room, &expected, |room| typed::write(format, header, body, room));
+        written(run, name, &given, out, &expected, |out| typed::write(format, header, body, out));
     }
 }
 
-/// A setting that is mostly in range, and a room about as large as its sentence.
+/// A setting that is mostly in range, and an output about as large as its sentence.
 fn any_setting(run: &mut Run) {
     let rng = &mut run.rng;
     let source = if rng.one_in(10) { rng.byte() } else { rng.pick(b"LH") };
@@ -116,41 +116,41 @@ fn any_setting(run: &mut Run) {
         1 => rng.pick(&[least, most, most + 1, u32::MAX]),
         _ => rng.range(least.into(), most.into()) as u32,
     };
-    let room = if rng.one_in(2) { rng.range(17, 26) as usize } else { 82 };
-    write_setting(run, source, parameter, value, room);
+    let out = if rng.one_in(2) { rng.range(17, 26) as usize } else { 82 };
+    write_setting(run, source, parameter, value, out);
 }
 
-fn write_setting(run: &mut Run, source: u8, parameter: u8, value: u32, room: usize) {
-    let expected = writer::write_setting(source, parameter, value, room);
+fn write_setting(run: &mut Run, source: u8, parameter: u8, value: u32, out: usize) {
+    let expected = writer::write_setting(source, parameter, value, out);
     let given = [
         Given::Number("source", source.into()),
         Given::Number("parameter", parameter.into()),
         Given::Number("value", value.into()),
-        Given::Number("room", room as i64),
+        Given::Number("output", out as i64),
     ];
     let name = "write setting";
-    written(run, name, &given, room, &expected, |room| raw::write_setting(source, parameter, value, room));
+    written(run, name, &given, out, &expected, |out| raw::write_setting(source, parameter, value, out));
     if typed::is_setting(source, parameter) {
-        written(run, name, &given, room, &expected, |room| typed::write_setting(source, parameter, value, room));
+        written(run, name, &given, out, &expected, |out| typed::write_setting(source, parameter, value, out));
     }
 }
 
-/// What a writer answers and leaves in its room.
+/// What a writer answers and leaves in its output.
 fn written(
     run: &mut Run,
     name: &'static str,
     given: &[Given],
-    room: usize,
+    out: usize,
     expected: &Result<Vec<u8>, u32>,
     write: impl FnOnce(&mut [u8]) -> (u32, usize),
 ) {
-    let mut lent = Area::room(room, run.rng.byte());
+    let mut lent = Area::out(out, run.rng.byte());
     let answer = write(lent.lent());
     let (number, frame) = match expected {
         Ok(frame) => (0, &frame[..]),
         Err(number) => (*number, &[][..]),
     };
     run.same(name, given, answer, (number, frame.len()));
-    run.same_bytes("the room of a writer", given, lent.whole(), &lent.expected(frame));
-    run.tally.call(name, number, room);
+    run.same_bytes("the output of a writer", given, lent.whole(), &lent.expected(frame));
+    run.tally.call(name, number, out);
 }

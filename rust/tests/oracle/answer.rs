@@ -1,8 +1,8 @@
-//! What a reading answers: a number, and values that are zeros beside a refusal.
+//! What a field function answers: a number, and values that are zeros beside a refusal.
 
 use super::{calendar, mgl, nmea, onflight, plars};
 
-/// The values of a reading, or the number of its refusal.
+/// The values of a field function, or the number of its refusal.
 pub type Judged = Result<Vec<i64>, u32>;
 
 /// A number and 21 values.
@@ -50,9 +50,9 @@ pub fn clock_values(clock: calendar::Clock) -> Vec<i64> {
     }
 }
 
-/// The reading with a number; an unknown one is 7.
-pub fn read(reading: u32, item: u32, frame: &[u8]) -> Answer {
-    match reading {
+/// The field function with a number; an unknown one is 7.
+pub fn read(function: u32, item: u32, frame: &[u8]) -> Answer {
+    match function {
         100 => mgl::body(frame),
         101 => mgl::header(frame),
         102 => mgl::gps(frame),
@@ -83,9 +83,9 @@ pub fn read(reading: u32, item: u32, frame: &[u8]) -> Answer {
     .into()
 }
 
-/// The float reading with a number; an unknown one is 7, and a refused one is 0.
-pub fn ratio(reading: u32, frame: &[u8]) -> (u32, f64) {
-    let judged = match reading {
+/// The same for the field functions that answer a float; an unknown one is 7, and a refused one is 0.
+pub fn ratio(function: u32, frame: &[u8]) -> (u32, f64) {
+    let judged = match function {
         214 => onflight::input_voltage(frame),
         215 => onflight::load_factor(frame),
         _ => Err(7),

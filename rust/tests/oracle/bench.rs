@@ -1,4 +1,4 @@
-//! The contents of bench files.
+//! The tables of contents of bench files.
 
 use super::answer::{require, Answer, Judged};
 
@@ -14,10 +14,10 @@ fn judge(first: &[u8], file_len: u64, item: u32) -> Judged {
     require(entries.len() == usize::from(*n), 10)?;
     require(entries.iter().all(|entry| (1..=3).contains(&entry[0])), 10)?;
     let length = |entry: &[u8]| i64::from(u32::from_le_bytes([entry[2], entry[3], entry[4], entry[5]]));
-    let contents = 1 + 6 * i64::from(*n);
+    let toc = 1 + 6 * i64::from(*n);
     let bodies: i64 = entries.iter().map(|entry| length(entry)).sum();
-    require(u64::try_from(contents + bodies) == Ok(file_len), 10)?;
+    require(u64::try_from(toc + bodies) == Ok(file_len), 10)?;
     let entry = entries.get(item as usize).ok_or(9u32)?;
     let before: i64 = entries[..item as usize].iter().map(|entry| length(entry)).sum();
-    Ok(vec![i64::from(*n), entry[0].into(), entry[1].into(), length(entry), contents + before])
+    Ok(vec![i64::from(*n), entry[0].into(), entry[1].into(), length(entry), toc + before])
 }

@@ -16,7 +16,7 @@ impl Machine {
     }
 
     /// The refusals of a call, in the order 2, 1, 3, 4; or 0.
-    pub fn judge(&self, call: Call, room: usize) -> u32 {
+    pub fn judge(&self, call: Call, out: usize) -> u32 {
         let piece = call.bytes().len();
         if self.closed {
             2
@@ -24,7 +24,7 @@ impl Machine {
             1
         } else if (self.delivered.len() + piece) as u64 > MOST {
             3
-        } else if room < self.reading().pending + piece {
+        } else if out < self.reading().pending + piece {
             4
         } else {
             0

@@ -1,4 +1,4 @@
-//! The readings of MGL frames.
+//! The fields of MGL frames.
 
 use super::answer::{clock_values, one_frame, require, Judged};
 use super::calendar::{Clock, Time};

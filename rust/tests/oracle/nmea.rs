@@ -1,4 +1,4 @@
-//! The readings of RMC sentences.
+//! The fields of RMC sentences.
 
 use super::answer::{clock_values, one_frame, require, Judged};
 use super::calendar::{Clock, Time};

@@ -1,4 +1,4 @@
-//! The readings of OnFlight frames. Offsets are those of the paper, from the start of the frame.
+//! The fields of OnFlight frames. Offsets are those of the paper, from the start of the frame.
 
 use super::answer::{clock_values, one_frame, require, Judged};
 use super::calendar::{Clock, Time};

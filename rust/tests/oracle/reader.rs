@@ -3,10 +3,14 @@
 use super::reading::{closing, reading, Reading};
 use super::shape::{shape, Shape};
 
-/// The bytes of a reader: five words and 275 held bytes.
-pub const LEN: usize = 295;
+/// Where the held bytes start, after five words; and how many there are.
+pub const HELD_AT: usize = 20;
+pub const HELD: usize = 275;
 
-/// What the three numbers may be together.
+/// The bytes of a reader.
+pub const LEN: usize = HELD_AT + HELD;
+
+/// What the counts may be together.
 pub const MOST: u64 = 4_294_967_295;
 
 /// The longest piece.
@@ -43,7 +47,7 @@ pub struct Outcome {
     pub number: u32,
     /// The reader's bytes afterwards.
     pub reader: Vec<u8>,
-    /// What is laid at the start of the room.
+    /// What is copied to the start of the output.
     pub handed: Vec<u8>,
     /// How many frames that is.
     pub frames: u64,
@@ -73,7 +77,7 @@ impl State {
             framed: word(2),
             skipped: word(3),
             pending: word(4),
-            held: bytes[20..].to_vec(),
+            held: bytes[HELD_AT..].to_vec(),
         })
     }
 
@@ -86,7 +90,7 @@ impl State {
         bytes
     }
 
-    /// The three numbers together.
+    /// The counts together.
     pub fn total(&self) -> u64 {
         u64::from(self.framed) + u64::from(self.skipped) + u64::from(self.pending)
     }
@@ -108,24 +112,24 @@ impl State {
     }
 
     /// The refusals of a call, in the order 11, 2, 1, 3, 4; or 0.
-    fn judge(&self, call: Call, room: usize) -> u32 {
+    fn judge(&self, call: Call, out: usize) -> u32 {
         let piece = call.bytes().len();
         let refusals = [
             (11, self.broken()),
             (2, self.closed),
             (1, piece > LONGEST_PIECE),
             (3, self.total() + piece as u64 > MOST),
-            (4, (room as u64) < u64::from(self.pending) + piece as u64),
+            (4, (out as u64) < u64::from(self.pending) + piece as u64),
         ];
         refusals.iter().find(|(_, holds)| *holds).map_or(0, |(number, _)| *number)
     }
 }
 
 /// A call on the reader in any bytes.
-pub fn serve(reader: &[u8], call: Call, room: usize) -> Outcome {
+pub fn serve(reader: &[u8], call: Call, out: usize) -> Outcome {
     let refused = |number| Outcome { number, reader: reader.to_vec(), handed: vec![], frames: 0 };
     let Some(state) = State::decode(reader) else { return refused(11) };
-    let number = state.judge(call, room);
+    let number = state.judge(call, out);
     if number != 0 {
         return refused(number);
     }
@@ -142,7 +146,7 @@ pub fn serve(reader: &[u8], call: Call, room: usize) -> Outcome {
     Outcome { number: 0, reader: after.encode(), handed: found.frames, frames: found.count }
 }
 
-/// A fresh reader, laid in bytes that were something else before.
+/// A fresh reader, written to bytes that were something else before.
 pub fn fresh(format: u32, reader: &[u8]) -> (u32, Vec<u8>) {
     if reader.len() != LEN {
         return (11, reader.to_vec());

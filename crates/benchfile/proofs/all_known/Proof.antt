@@ -2,9 +2,9 @@ use native.Mathlib.Nat.{add-zero}
 use Prim.Native.Nat.{_+_, _*_, _-_, _≤_}
 use mathlib.Core.Path.{_≡_, refl, sym}
 use mathlib.Core.Bool.{true}
-use Rattle.content.proofs.AnswerLaws.{held, failed}
-use Rattle.benchfile.specs.Contents.{allKnown}
-use Rattle.benchfile.proofs.ContentsLaws.{known-next, not-known}
+use Rattle.answer.proofs.AnswerLaws.{held, failed}
+use Rattle.benchfile.specs.Toc.{allKnown}
+use Rattle.benchfile.proofs.TocLaws.{known-next, not-known}
 use native.Mathlib.Omega.{arith}
 use borrow.Author.Needs.{needs}
 use Rattle.benchfile.proofs.all_known.Statement.{statement}

@@ -1,6 +1,6 @@
 use borrow.Author.Needs.{needs}
 use native.Mathlib.Omega.{arith}
-use Rattle.content.proofs.BodyLaws.{head-is, tail-is, ends-fit, between-at, no-room}
+use Rattle.content.proofs.BodyLaws.{head-is, tail-is, ends-fit, between-at, too-short}
 use Rattle.content.proofs.between.Statement.{statement}
 use Rattle.content.proofs.between.Tie as tie
 
@@ -15,7 +15,7 @@ between-spec =
     (λ c. search needs)
     (λ c.
     let l = c .before .before .layout-of .ensures in
-    no-room _ _ (head-is _ l) (tail-is _ l) (c .before .if1 .taken))
+    too-short _ _ (head-is _ l) (tail-is _ l) (c .before .if1 .taken))
     (λ c. search needs)
     (λ c. search needs)
     (λ c. search needs)

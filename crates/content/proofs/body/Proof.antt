@@ -1,7 +1,7 @@
 use borrow.Author.Needs.{needs}
 use mathlib.Core.Path.{_∙_}
 use Rattle.content.specs.Body.{bodyOf}
-use Rattle.content.proofs.AnswerLaws.{held, failed}
+use Rattle.answer.proofs.AnswerLaws.{held, failed}
 use Rattle.content.proofs.BodyLaws.{body-between}
 use Rattle.content.proofs.body.Statement.{statement}
 use Rattle.content.proofs.body.Tie as tie

@@ -8,11 +8,11 @@ use lib.Dec.{eqb}
 use lib.ListN.{length}
 use Rattle.framing.specs.declared.Found.{Found}
 use Rattle.framing.specs.declared.Found.the-variants.{Frame, Start, Neither}
-use Rattle.framing.specs.declared.run.Run.{Run}
+use Rattle.framing.specs.declared.frame_run.Run.{Run}
 use Rattle.framing.specs.Format.{Format}
 use Rattle.framing.specs.Frame.{front}
-use Rattle.framing.specs.Leading.{leadOf}
-use Rattle.framing.proofs.LeadLaws.{oneOf, lead-one}
+use Rattle.framing.specs.FrameRun.{frameRun}
+use Rattle.framing.proofs.FrameRunLaws.{oneOf, run-one}
 use Rattle.content.specs.Body.{spans, isFrame}
 use Rattle.content.proofs.is_frame.Statement.{statement}
 use Rattle.content.proofs.is_frame.Tie as tie
@@ -28,19 +28,19 @@ spans-none (Frame m) n r e h = absurd (h (ap (λ (x : Run). x .frames) e))
 spans-none Start n r e h = refl
 spans-none (Neither x) n r e h = refl
 
-module _ (f : Format) (s : List ℕ) (r : Run) (e : r ≡ leadOf f 1 s) where
+module _ (f : Format) (s : List ℕ) (r : Run) (e : r ≡ frameRun f 1 s) where
   framed : r .frames ≡ 1 → eqb (r .bytes) (length s) ≡ isFrame f s
   unfolding isFrame
-  framed h = spans-one (front f s) (length s) r (e ∙ lead-one f s) h
+  framed h = spans-one (front f s) (length s) r (e ∙ run-one f s) h
 
   none : (r .frames ≡ 1 → ⊥) → false ≡ isFrame f s
   unfolding isFrame
-  none h = spans-none (front f s) (length s) r (e ∙ lead-one f s) h
+  none h = spans-none (front f s) (length s) r (e ∙ run-one f s) h
 
 pub is-frame-spec : {M : Type 1} → statement M
 is-frame-spec =
     tie.close
     (tie.spec
     (λ c κs. search needs)
-    (λ c. framed _ _ _ (c .before .before .before .leading .ensures) (c .before .if1 .taken))
-    (λ c. none _ _ _ (c .before .before .leading .ensures) (c .if1 .left)))
+    (λ c. framed _ _ _ (c .before .before .before .frame-run .ensures) (c .before .if1 .taken))
+    (λ c. none _ _ _ (c .before .before .frame-run .ensures) (c .if1 .left)))

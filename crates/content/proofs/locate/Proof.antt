@@ -1,7 +1,7 @@
 use borrow.Author.Needs.{needs}
 use native.Mathlib.Omega.{arith}
 use Rattle.content.specs.Body.{placeOf}
-use Rattle.content.proofs.AnswerLaws.{fails, held, failed}
+use Rattle.answer.proofs.AnswerLaws.{fails, held, failed}
 use Rattle.content.proofs.BodyLaws.{body-inside, head-is, tail-is, place-at}
 use Rattle.content.proofs.locate.Statement.{statement}
 use Rattle.content.proofs.locate.Tie as tie

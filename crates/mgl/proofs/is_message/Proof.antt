@@ -1,5 +1,5 @@
 use borrow.Author.Needs.{needs}
-use Rattle.content.proofs.AnswerLaws.{held, failed}
+use Rattle.answer.proofs.AnswerLaws.{held, failed}
 use Rattle.mgl.specs.Header.{isMessage}
 use Rattle.mgl.proofs.is_message.Statement.{statement}
 use Rattle.mgl.proofs.is_message.Tie as tie

@@ -1,6 +1,6 @@
 use borrow.Author.Needs.{needs}
 use Rattle.framing.specs.Format.{formatOf}
-use Rattle.content.proofs.AnswerLaws.{after, held, answers}
+use Rattle.answer.proofs.AnswerLaws.{after, held, answers}
 use Rattle.mgl.specs.Header.{headerOf}
 use Rattle.mgl.proofs.read_header.Statement.{statement}
 use Rattle.mgl.proofs.read_header.Tie as tie

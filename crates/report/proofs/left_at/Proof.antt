@@ -1,4 +1,4 @@
-use Rattle.benchfile.specs.Contents.{entryAt}
+use Rattle.benchfile.specs.Toc.{entryAt}
 use Rattle.benchfile.specs.declared.Entry.{Entry}
 use borrow.Author.Tests.{lt-ltb, le-ltb}
 use mathlib.Core.Path.{ap}

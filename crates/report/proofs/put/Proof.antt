@@ -1,4 +1,4 @@
-use Rattle.room.proofs.RoomLaws.{copied-none}
+use Rattle.buffer.proofs.BufferLaws.{copied-none}
 use borrow.Author.Tests.{lt-leb, le-leb}
 use native.Mathlib.Omega.{arith}
 use borrow.Author.Needs.{needs}

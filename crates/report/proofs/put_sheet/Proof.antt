@@ -1,8 +1,8 @@
 use Rattle.report.proofs.TextLaws.{written}
 use Rattle.benchfile.proofs.SheetLaws.{sheet-short}
 use Rattle.benchfile.specs.Sheet.{sheetText, longestSheet}
-use Rattle.room.proofs.RoomLaws.{first-copied}
-use Rattle.room.specs.Room.{copied}
+use Rattle.buffer.proofs.BufferLaws.{first-copied}
+use Rattle.buffer.specs.Buffer.{copied}
 use lib.Seq.{length-take-le}
 use lib.ListN.{length, replicate}
 use mathlib.Core.List.{List}

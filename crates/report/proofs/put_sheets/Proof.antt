@@ -4,7 +4,7 @@ use mathlib.Core.Path.{_≡_, refl, _∙_}
 use Prim.Native.Nat.{_≤_, _-_}
 use native.Mathlib.Omega.{arith}
 use borrow.Author.Needs.{needs}
-use Rattle.benchfile.specs.Contents.{mostEntries}
+use Rattle.benchfile.specs.Toc.{mostEntries}
 use Rattle.report.proofs.put_sheets.Statement.{statement}
 use Rattle.report.proofs.put_sheets.Tie as tie
 
@@ -29,13 +29,13 @@ put-sheets-spec =
     (λ c. search needs)
     (λ c κs.
     let l = c .before .before .before in
-    omega (arith, l .loop .inv .1 .0 .short, l .loop .inv .1 .1, l .before .before .before .pre, l .before .least .ensures))
+    omega (arith, l .loop .inv .1 .0 .short, l .loop .inv .1 .1, l .before .before .before .pre, l .before .min-usize .ensures))
     (λ c. search needs)
     (λ c. search needs)
     (λ c.
     let t = c .before .before .before .before .before in
     let l = t .before .loop in
-    let m = t .before .before .least .ensures in
+    let m = t .before .before .min-usize .ensures in
     let s = t .before .before .before .before in
     let p = c .before .before .put-sheet in
     (search needs, (laid-next _ (l .i) (l .at) _ _ _ _ _ (omega (arith, t .loop-test .taken, m, places s)) (omega (arith, l .inv .1 .0 .short, t .loop-test .taken, m, s .pre)) (l .inv .1 .0) (p .ensures), p .kept .1 .0 ∙ l .inv .1 .1)))
@@ -43,4 +43,4 @@ put-sheets-spec =
     (λ c.
     let l = c .before .loop in
     let s = c .before .before .before .before in
-    laid-all _ (s .args .count) (l .i) _ (s .args .text .now) _ (places s) (s .pre) (omega (arith, c .before .before .least .ensures)) (l .inv .1 .0)))
+    laid-all _ (s .args .count) (l .i) _ (s .args .text .now) _ (places s) (s .pre) (omega (arith, c .before .before .min-usize .ensures)) (l .inv .1 .0)))

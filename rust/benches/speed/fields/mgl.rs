@@ -7,11 +7,11 @@ use blossomaxle::{Clock, Refusal};
 
 pub fn header(frame: &[u8]) -> Answer<Header> {
     judge::<Mgl>(frame)?;
-    let [message, rate, count, version] = bytes_at(frame, 4);
-    Ok(Header { message, rate, count, version })
+    let [message_type, rate, count, version] = bytes_at(frame, 4);
+    Ok(Header { message_type, rate, count, version })
 }
 
-/// A frame of this type, version 1 and this length.
+/// A frame of this message type, version 1 and this length.
 fn message<const LEN: usize>(frame: &[u8], kind: u8) -> Answer<&[u8; LEN]> {
     judge::<Mgl>(frame)?;
     match <&[u8; LEN]>::try_from(frame) {

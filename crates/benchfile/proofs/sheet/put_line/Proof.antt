@@ -30,5 +30,5 @@ put-line-spec =
     line-laid (a .label .now) (a .n) (c .before .before .before .before .before .before .before .before .before .count .ensures) (a .text .now) (a .at) (s .pre)
     (c .before .before .before .before .before .before .before .before .before .before .before .before .before .before .before .before .before .copy .ensures)
     (c .before .before .before .before .before .before .before .before .before .before .before .before .copy2 .ensures)
-    (c .before .before .before .before .before .before .before .lay .ensures)
+    (c .before .before .before .before .before .before .before .put .ensures)
     (c .before .before .copy3 .ensures)))

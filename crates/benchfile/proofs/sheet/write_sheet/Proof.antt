@@ -4,7 +4,7 @@ use Rattle.benchfile.proofs.SheetLaws.{sheet-short}
 use mathlib.Core.Path.{_≡_, sym, ap, _∙_}
 use lib.ListN.{length, length-take}
 use borrow.Author.Tests.{le-leb, lt-leb}
-use Rattle.room.proofs.RoomLaws.{copied-none}
+use Rattle.buffer.proofs.BufferLaws.{copied-none}
 use native.Mathlib.Omega.{arith}
 use borrow.Author.Needs.{needs}
 use Rattle.benchfile.proofs.sheet.write_sheet.Statement.{statement}
@@ -18,8 +18,8 @@ write-sheet-spec =
     (λ c κs. sheet-short (c .before .before .args .sheet) (search needs) (search needs) (search needs) (search needs) (search needs))
     (λ c.
     let a = c .before .before .before .before .before .args in
-    let h : length (a .room .now) < length (sheetText (a .sheet)) = omega arith in
-    (rw (lt-leb _ _ h), copied-none (sheetText (a .sheet)) (a .room .now) 0 (omega arith)))
+    let h : length (a .out .now) < length (sheetText (a .sheet)) = omega arith in
+    (rw (lt-leb _ _ h), copied-none (sheetText (a .sheet)) (a .out .now) 0 (omega arith)))
     (λ c.
     let p = c .before .before .put-sheet in
     omega (arith, length-take (p .result) (p .last .1 .0), ap length (p .ensures .1)))
@@ -29,5 +29,5 @@ write-sheet-spec =
     (λ c.
     let a = c .before .before .before .before .before .before .before .before .before .before .args in
     let p = c .before .before .before .before .before .before .before .put-sheet in
-    let h : length (sheetText (a .sheet)) ≤ length (a .room .now) = omega arith in
+    let h : length (sheetText (a .sheet)) ≤ length (a .out .now) = omega arith in
     (rw (le-leb _ _ h) (p .ensures .0), c .before .before .copy .ensures ∙ rw (p .ensures .1))))

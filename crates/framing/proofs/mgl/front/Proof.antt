@@ -23,6 +23,6 @@ front-spec =
     (λ c. search needs)
     (λ c.
     let e = sym (c .before .before .before .before .before .before .scan .ensures) ∙ c .before .before .before .before .n .given .1 in
-    c .judged .ensures ∙ sym (front-whole _ _ e (sym (c .before .is-good .ensures))))
+    c .judged .ensures ∙ sym (front-whole _ _ e (sym (c .before .checksum-ok .ensures))))
     (λ c. sym (front-at _ _ (sym (c .before .before .scan .ensures) ∙ c .enum-told .given .1)))
     (λ c. sym (front-at _ _ (sym (c .before .before .before .scan .ensures) ∙ c .before .r .given .1))))

@@ -34,6 +34,6 @@ front-spec =
     (λ c.
     let g = c .before .before .before .before .before .before .before in
     let e = sym (c .before .before .before .before .before .scan .ensures) ∙ c .before .before .before .n .given .1 in
-    c .judged .ensures ∙ sym (front-whole _ _ e (ap (good nmea) (take-take _ _ _ (within _ _ _ (g .pre) e)) ∙ sym (c .before .is-good .ensures))))
+    c .judged .ensures ∙ sym (front-whole _ _ e (ap (good nmea) (take-take _ _ _ (within _ _ _ (g .pre) e)) ∙ sym (c .before .checksum-ok .ensures))))
     (λ c. sym (front-at _ _ (sym (c .before .before .scan .ensures) ∙ c .enum-told .given .1)))
     (λ c. sym (front-at _ _ (sym (c .before .before .before .scan .ensures) ∙ c .before .r .given .1))))

@@ -1,12 +1,22 @@
 use borrow.Author.Needs.{needs}
 use native.Mathlib.Omega.{arith}
 use mathlib.Core.Path.{_≡_, _∙_, ap}
-use Prim.Native.Nat.{ℕ, _+_, _/_, _%_}
+use mathlib.Core.Bool.{true}
+use Prim.Native.Nat.{ℕ, _+_, _/_, _%_, _<_}
 use lib.ListN.{getD}
 use borrow.Author.Tests.{eqb-true}
+use Rattle.numbers.specs.Hex.{hexDigitOf}
 use Rattle.framing.specs.Nmea.{hexDigit, hexValue}
+use Rattle.framing.proofs.TestLaws.{true-of}
+use Rattle.framing.proofs.HexLaws.{value-of-digit, digit-is}
 use Rattle.framing.proofs.nmea.is_end.Statement.{statement}
 use Rattle.framing.proofs.nmea.is_end.Tie as tie
+
+-- a byte that is the digit of n % 16 is a digit, and has that value
+writes : (b r n : ℕ) → b ≡ r → r ≡ hexDigitOf (n % 16) → (hexDigit b ≡ true) × (hexValue b ≡ n % 16)
+writes b r n e f =
+    let l : n % 16 < 16 = omega arith in
+    (ap hexDigit (e ∙ f) ∙ true-of _ (digit-is (n % 16) l), ap hexValue (e ∙ f) ∙ value-of-digit (n % 16) l)
 
 pub is-end-spec : {M : Type 1} → statement M
 is-end-spec =
@@ -31,15 +41,15 @@ is-end-spec =
     let low = c .before .before .before in
     let high = low .before .before .before in
     let a = high .before .before .before .before .before .before .args in
-    let h : hexValue (getD (a .s .now) (a .at + 1) 0) ≡ a .x / 16 = ap hexValue (high .if2 .left) ∙ high .before .digit-of .ensures .1 in
-    let l : hexValue (getD (a .s .now) (a .at + 2) 0) ≡ a .x % 16 = ap hexValue (low .if3 .left) ∙ low .before .digit-of2 .ensures .1 in
+    let h = writes _ _ (a .x / 16) (high .if2 .left) (high .before .hex-digit .ensures) in
+    let l = writes _ _ (a .x) (low .if3 .left) (low .before .hex-digit2 .ensures) in
     record {
       ended = record {
         star = high .before .before .before .if1 .left;
-        high = ap hexDigit (high .if2 .left) ∙ high .before .digit-of .ensures .0;
-        low = ap hexDigit (low .if3 .left) ∙ low .before .digit-of2 .ensures .0;
+        high = h .0;
+        low = l .0;
         return = c .before .if4 .left;
         feed = eqb-true (getD (a .s .now) (a .at + 4) 0) 0x0A e;
       };
-      writes = omega (arith, h, l);
+      writes = omega (arith, h .1, l .1);
     }))

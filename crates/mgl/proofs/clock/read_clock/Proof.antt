@@ -1,6 +1,6 @@
 use borrow.Author.Needs.{needs}
 use Rattle.framing.specs.Format.{formatOf}
-use Rattle.content.proofs.AnswerLaws.{after, held, answers}
+use Rattle.answer.proofs.AnswerLaws.{after, held, answers}
 use Rattle.mgl.specs.Clock.{mglClockOf}
 use Rattle.mgl.proofs.clock.read_clock.Statement.{statement}
 use Rattle.mgl.proofs.clock.read_clock.Tie as tie

@@ -2,7 +2,7 @@ use borrow.Author.Needs.{needs}
 use borrow.Author.Tests.{le-leb, lt-leb}
 use native.Mathlib.Omega.{arith}
 use lib.ListN.{length}
-use Rattle.content.proofs.AnswerLaws.{held, failed}
+use Rattle.answer.proofs.AnswerLaws.{held, failed}
 use Rattle.mgl.specs.Fuel.{isFuel}
 use Rattle.mgl.proofs.fuel.is_fuel.Statement.{statement}
 use Rattle.mgl.proofs.fuel.is_fuel.Tie as tie

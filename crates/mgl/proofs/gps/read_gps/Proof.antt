@@ -2,7 +2,7 @@ use Prim.Native.Nat.{_<_, _≤_}
 use borrow.Author.Needs.{needs}
 use native.Mathlib.Omega.{arith}
 use Rattle.framing.specs.Format.{formatOf}
-use Rattle.content.proofs.AnswerLaws.{answers}
+use Rattle.answer.proofs.AnswerLaws.{answers}
 use Rattle.mgl.specs.Gps.{gpsOf}
 use Rattle.mgl.proofs.gps.read_gps.Statement.{statement}
 use Rattle.mgl.proofs.gps.read_gps.Tie as tie

@@ -1,8 +1,8 @@
 use mathlib.Core.Path.{_∙_, ap}
 use borrow.Author.Needs.{needs}
 use Rattle.framing.specs.Format.{formatOf}
-use Rattle.content.specs.Answer.{given}
-use Rattle.content.proofs.AnswerLaws.{after, fails, held, failed}
+use Rattle.answer.specs.Answer.{given}
+use Rattle.answer.proofs.AnswerLaws.{after, fails, held, failed}
 use Rattle.onflight.specs.Status.{setBits, setBitsOf}
 use Rattle.onflight.proofs.status.read_set_bits.Statement.{statement}
 use Rattle.onflight.proofs.status.read_set_bits.Tie as tie

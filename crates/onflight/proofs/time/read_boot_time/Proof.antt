@@ -1,8 +1,8 @@
 use mathlib.Core.Path.{ap}
 use borrow.Author.Needs.{needs}
 use Rattle.framing.specs.Format.{formatOf}
-use Rattle.content.specs.Answer.{given}
-use Rattle.content.proofs.AnswerLaws.{after, fails, held, failed}
+use Rattle.answer.specs.Answer.{given}
+use Rattle.answer.proofs.AnswerLaws.{after, fails, held, failed}
 use Rattle.onflight.specs.Time.{bootOf}
 use Rattle.onflight.proofs.time.read_boot_time.Statement.{statement}
 use Rattle.onflight.proofs.time.read_boot_time.Tie as tie

@@ -1,6 +1,6 @@
 use borrow.Author.Needs.{needs}
 use Rattle.framing.specs.Format.{formatOf}
-use Rattle.content.proofs.AnswerLaws.{after, fails, held, failed}
+use Rattle.answer.proofs.AnswerLaws.{after, fails, held, failed}
 use Rattle.onflight.specs.Time.{onflightClockOf}
 use Rattle.onflight.proofs.time.read_clock.Statement.{statement}
 use Rattle.onflight.proofs.time.read_clock.Tie as tie

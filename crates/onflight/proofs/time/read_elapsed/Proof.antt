@@ -4,8 +4,8 @@ use native.Mathlib.Omega.{arith}
 use borrow.Author.Needs.{needs}
 use Rattle.numbers.proofs.Wrap.{difference}
 use Rattle.framing.specs.Format.{formatOf}
-use Rattle.content.specs.Answer.{given}
-use Rattle.content.proofs.AnswerLaws.{after, fails, held, failed}
+use Rattle.answer.specs.Answer.{given}
+use Rattle.answer.proofs.AnswerLaws.{after, fails, held, failed}
 use Rattle.onflight.specs.Time.{elapsed, elapsedOf}
 use Rattle.onflight.proofs.time.read_elapsed.Statement.{statement}
 use Rattle.onflight.proofs.time.read_elapsed.Tie as tie

@@ -7,8 +7,8 @@ use borrow.Author.Needs.{needs}
 use mir.Syntax.{w32}
 use Rattle.numbers.proofs.Difference.{less-fits, less-back}
 use Rattle.framing.specs.Format.{formatOf}
-use Rattle.content.specs.Answer.{given}
-use Rattle.content.proofs.AnswerLaws.{after, fails, held, failed}
+use Rattle.answer.specs.Answer.{given}
+use Rattle.answer.proofs.AnswerLaws.{after, fails, held, failed}
 use Rattle.onflight_sensors.specs.Position.{altitudeOf}
 use Rattle.onflight_sensors.proofs.position.altitude_at.Statement.{statement}
 use Rattle.onflight_sensors.proofs.position.altitude_at.Tie as tie

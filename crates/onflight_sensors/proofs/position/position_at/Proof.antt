@@ -2,7 +2,7 @@ use borrow.Author.Needs.{needs}
 use mir.Syntax.{w32}
 use Rattle.numbers.proofs.Size.{called}
 use Rattle.framing.specs.Format.{formatOf}
-use Rattle.content.proofs.AnswerLaws.{after, fails, held, failed}
+use Rattle.answer.proofs.AnswerLaws.{after, fails, held, failed}
 use Rattle.onflight_sensors.specs.Position.{positionOf}
 use Rattle.onflight_sensors.proofs.position.position_at.Statement.{statement}
 use Rattle.onflight_sensors.proofs.position.position_at.Tie as tie

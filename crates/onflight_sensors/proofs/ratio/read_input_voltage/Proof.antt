@@ -4,8 +4,8 @@ use lib.Ieee.{ofInt, ofBits}
 use lib.IntN.{pos}
 use borrow.Author.Needs.{needs}
 use Rattle.framing.specs.Format.{formatOf}
-use Rattle.content.specs.Answer.{given}
-use Rattle.content.proofs.AnswerLaws.{after, fails, held, failed}
+use Rattle.answer.specs.Answer.{given}
+use Rattle.answer.proofs.AnswerLaws.{after, fails, held, failed}
 use Rattle.onflight_sensors.specs.Ratio.{ratio, voltageOf}
 use Rattle.onflight_sensors.proofs.ratio.read_input_voltage.Statement.{statement}
 use Rattle.onflight_sensors.proofs.ratio.read_input_voltage.Tie as tie

@@ -5,8 +5,8 @@ use borrow.Author.Needs.{needs}
 use mir.Syntax.{w16}
 use Rattle.numbers.proofs.Size.{called}
 use Rattle.framing.specs.Format.{formatOf}
-use Rattle.content.specs.Answer.{given}
-use Rattle.content.proofs.AnswerLaws.{after, fails, held, failed}
+use Rattle.answer.specs.Answer.{given}
+use Rattle.answer.proofs.AnswerLaws.{after, fails, held, failed}
 use Rattle.onflight_sensors.specs.Ratio.{ratio, loadOf}
 use Rattle.onflight_sensors.proofs.ratio.read_load_factor.Statement.{statement}
 use Rattle.onflight_sensors.proofs.ratio.read_load_factor.Tie as tie

@@ -2,7 +2,7 @@ use borrow.Author.Needs.{needs}
 use mir.Syntax.{w16}
 use Rattle.numbers.proofs.Size.{called}
 use Rattle.framing.specs.Format.{formatOf}
-use Rattle.content.proofs.AnswerLaws.{after, fails, held, failed}
+use Rattle.answer.proofs.AnswerLaws.{after, fails, held, failed}
 use Rattle.onflight_sensors.specs.Sensor.{axesOf}
 use Rattle.onflight_sensors.proofs.sensor.axes_at.Statement.{statement}
 use Rattle.onflight_sensors.proofs.sensor.axes_at.Tie as tie

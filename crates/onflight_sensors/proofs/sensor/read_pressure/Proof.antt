@@ -2,8 +2,8 @@ use Prim.Native.Nat.{ℕ, _*_}
 use mathlib.Core.Path.{ap}
 use borrow.Author.Needs.{needs}
 use Rattle.framing.specs.Format.{formatOf}
-use Rattle.content.specs.Answer.{given}
-use Rattle.content.proofs.AnswerLaws.{after, fails, held, failed}
+use Rattle.answer.specs.Answer.{given}
+use Rattle.answer.proofs.AnswerLaws.{after, fails, held, failed}
 use Rattle.onflight_sensors.specs.Sensor.{pressureOf}
 use Rattle.onflight_sensors.proofs.sensor.read_pressure.Statement.{statement}
 use Rattle.onflight_sensors.proofs.sensor.read_pressure.Tie as tie

@@ -1,6 +1,6 @@
 use borrow.Author.Needs.{needs}
 use Rattle.framing.specs.Format.{formatOf}
-use Rattle.content.proofs.AnswerLaws.{after, fails, held, failed}
+use Rattle.answer.proofs.AnswerLaws.{after, fails, held, failed}
 use Rattle.onflight_sensors.specs.Sensor.{voltagesOf}
 use Rattle.onflight_sensors.proofs.sensor.read_voltages.Statement.{statement}
 use Rattle.onflight_sensors.proofs.sensor.read_voltages.Tie as tie

@@ -13,4 +13,5 @@ fresh-spec =
     (λ c κs. search needs)
     (λ c. rw (c .empty .ensures, sym (c .before .before .is-known .ensures) ∙ c .before .if1 .taken))
     (λ c κs. search needs)
-    (λ c. rw (c .empty2 .ensures, sym (c .before .before .is-known .ensures) ∙ c .before .if1 .left)))
+    (λ c κs. search needs)
+    (λ c. rw (c .empty2 .ensures, c .before .refusal-number .ensures, sym (c .before .before .before .is-known .ensures) ∙ c .before .before .if1 .left)))

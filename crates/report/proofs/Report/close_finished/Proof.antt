@@ -1,6 +1,6 @@
 use Rattle.report.specs.declared.Report.{Report}
 use Rattle.report.specs.Step.{closeFinished, openEntry, keepSheet}
-use Rattle.benchfile.specs.Contents.{entries}
+use Rattle.benchfile.specs.Toc.{entries}
 use Prim.Native.Nat.{_+_, _-_}
 use mathlib.Core.Path.{_≡_, refl, sym, ap, _∙_}
 use Rattle.report.proofs.StepLaws.{finished-kept, finished-end, finished-next}
@@ -10,10 +10,10 @@ use Rattle.report.proofs.Report.close_finished.Statement.{statement}
 use Rattle.report.proofs.Report.close_finished.Tie as tie
 
 abbrev Inv-loop : tie.InvT-loop
-Inv-loop room₀ n r₀ room r = (closeFinished r ≡ closeFinished r₀) × (n ≡ entries (r .contents))
+Inv-loop out₀ n r₀ out r = (closeFinished r ≡ closeFinished r₀) × (n ≡ entries (r .toc))
 
 abbrev μ-loop : tie.MeasureT-loop
-μ-loop room₀ n r₀ room r = n - r .entry
+μ-loop out₀ n r₀ out r = n - r .entry
 
 pub close-finished-spec : {M : Type 1} → statement M
 unfolding openEntry keepSheet

@@ -1,5 +1,5 @@
 use Rattle.report.specs.Step.{openEntry}
-use Rattle.benchfile.specs.Contents.{entryAt}
+use Rattle.benchfile.specs.Toc.{entryAt}
 use borrow.Author.Needs.{needs}
 use Rattle.report.proofs.Report.open_entry.Statement.{statement}
 use Rattle.report.proofs.Report.open_entry.Tie as tie

@@ -10,10 +10,10 @@ use Rattle.report.proofs.Report.take.Statement.{statement}
 use Rattle.report.proofs.Report.take.Tie as tie
 
 abbrev Inv-loop : tie.InvT-loop
-Inv-loop bytes room₀ r₀ at₀ room r at = (at ≤ length bytes) × (takeBytes r (drop at bytes) ≡ takeBytes r₀ bytes)
+Inv-loop bytes out₀ r₀ at₀ out r at = (at ≤ length bytes) × (takeBytes r (drop at bytes) ≡ takeBytes r₀ bytes)
 
 abbrev μ-loop : tie.MeasureT-loop
-μ-loop bytes room₀ r₀ at₀ room r at = length bytes - at
+μ-loop bytes out₀ r₀ at₀ out r at = length bytes - at
 
 pub take-spec : {M : Type 1} → statement M
 unfolding overrun
@@ -32,7 +32,7 @@ take-spec =
       let t = c .before .before .before .before .before in
           let l = t .before .loop in
           let s = t .before .before .before .args .bytes .now in
-          take-byte (l .r) s (l .at) (t .loop-test .taken) _ (c .before .before .before .if1 .taken) (c .take-contents .ensures) ∙ l .inv .1,
+          take-byte (l .r) s (l .at) (t .loop-test .taken) _ (c .before .before .before .if1 .taken) (c .take-toc .ensures) ∙ l .inv .1,
     ))
     (λ c.
     let t = c .before .before .before .before in
@@ -57,9 +57,9 @@ take-spec =
           let t = f .before .before .before .before in
           let l = t .before .loop in
           let s = t .before .before .before .args .bytes .now in
-          let n = p .least2 .result in
+          let n = p .min-usize2 .result in
           let m : l .at + n - l .at ≡ n = omega arith in
-          let k = p .least2 .ensures ∙ ap (λ (n : ℕ). min n longestPiece) (p .before .least .ensures) in
+          let k = p .min-usize2 .ensures ∙ ap (λ (n : ℕ). min n longestPiece) (p .before .min-usize .ensures) in
           take-piece (l .r) s (l .at) (t .loop-test .taken) _ _ n (f .before .before .if1 .left) (f .if2 .left) k (rw m at (c .before .before .take-piece .ensures)) (c .close-finished .ensures) ∙ l .inv .1,
     ))
     (λ c.

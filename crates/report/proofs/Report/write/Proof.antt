@@ -1,5 +1,5 @@
 use Rattle.report.specs.Step.{printed}
-use Rattle.content.proofs.AnswerLaws.{held, failed}
+use Rattle.answer.proofs.AnswerLaws.{held, failed}
 use lib.ListN.{length}
 use mathlib.Core.Path.{sym, ap, _∙_}
 use native.Mathlib.Omega.{arith}

@@ -1,0 +1,2 @@
+-- Laws of answers and refusal numbers.
+pub mod AnswerLaws

@@ -1,3 +1,0 @@
--- What the contracts of `capi` cite.
-pub mod Write
-pub mod Entry

@@ -1,0 +1,3 @@
+-- What the contracts of `capture` cite.
+pub mod Write
+pub mod Entry

@@ -1,0 +1,3 @@
+-- What the contracts of `capture_values` cite.
+pub mod Values
+pub mod FieldFunctions

@@ -1,0 +1,3 @@
+-- What the contracts of `frame_writer` cite.
+pub mod Frames
+pub mod Output

@@ -1,4 +1,0 @@
--- What the contracts of `lent` cite: a reader as lent bytes, and a call on it.
-pub mod Bytes
-pub mod Calls
-pub mod Private

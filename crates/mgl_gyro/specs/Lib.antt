@@ -1,0 +1,2 @@
+-- What the contracts of `mgl_gyro` cite.
+pub mod Gyro

@@ -1,3 +1,0 @@
--- What the proofs of `nmea` use.
-pub mod AngleLaws
-pub mod RmcLaws

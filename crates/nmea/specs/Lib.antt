@@ -1,3 +1,0 @@
--- What the contracts of `nmea` cite.
-pub mod Angle
-pub mod Rmc

@@ -1,0 +1,2 @@
+-- What the proofs of `nmea_plars` use.
+pub mod PlarsLaws

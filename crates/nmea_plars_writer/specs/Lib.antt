@@ -1,0 +1,2 @@
+-- What the contracts of `nmea_plars_writer` cite.
+pub mod Text

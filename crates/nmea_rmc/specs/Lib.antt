@@ -1,0 +1,3 @@
+-- What the contracts of `nmea_rmc` cite.
+pub mod Angle
+pub mod Rmc

@@ -1,2 +1,0 @@
--- What the proofs of `plars` use.
-pub mod PlarsLaws

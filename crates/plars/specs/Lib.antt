@@ -1,2 +1,0 @@
--- What the contracts of `plars` cite.
-pub mod Plars

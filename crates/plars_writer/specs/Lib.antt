@@ -1,2 +1,0 @@
--- What the contracts of `plars_writer` cite.
-pub mod Text

@@ -1,2 +1,0 @@
--- Laws of bytes laid in a room. Assumes nothing.
-pub mod RoomLaws

@@ -1,2 +1,0 @@
--- What the contracts of `room` cite.
-pub mod Room

@@ -1,0 +1,21 @@
+-- The proofs of the round trips.
+pub mod MadeLaws
+pub mod PartLaws
+pub mod WordLaws
+pub mod Bounds
+pub mod NmeaWritten
+pub mod BinaryWritten
+pub mod FramesWritten
+pub mod ShapeBack
+pub mod ShapesProof
+pub mod NmeaRewritten
+pub mod BinaryRewritten
+pub mod ExactlyProof
+pub mod FramesRewritten
+pub mod FramesTaken
+pub mod DigitTrips
+pub mod ValueTrips
+pub mod SettingsWritten
+pub mod SettingsRewritten
+pub mod GyroTrips
+pub mod BackToBackProof

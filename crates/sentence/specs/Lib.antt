@@ -1,5 +1,0 @@
--- What the contracts of `sentence` cite.
-pub mod Fields
-pub mod Digits
-pub mod Judge
-pub mod Private

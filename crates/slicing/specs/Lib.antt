@@ -1,2 +1,0 @@
--- What private functions of `slicing` ask and promise; the public one cites `checksum`'s definition alone.
-pub mod Private

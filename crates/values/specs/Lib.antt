@@ -1,3 +1,0 @@
--- What the contracts of `values` cite.
-pub mod Values
-pub mod Readings
