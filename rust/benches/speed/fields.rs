@@ -2,9 +2,11 @@
 //! unsafe code. Checksums are those of the reader by hand; a faster Fletcher than its own is in `sums`. Each is a
 //! function of a slice alone: it judges first that the slice is one whole frame.
 
+pub mod exported;
 pub mod mgl;
 pub mod nmea;
 pub mod onflight;
+mod run;
 
 use crate::rules::{Look, Rules};
 use blossomaxle::{Clock, Field, Refusal};

@@ -1,27 +1,33 @@
 //! How fast the library is beside hand-written Rust, beside plain copying, and as the sheet program beside `cat`.
 //!
 //! `tests/speed` builds what it needs and runs it. Arguments choose parts of `captures`, `checksums`, `sheet` and
-//! `readings`; without one all are measured. `BLOSSOMAXLE_SPEED_MB` is the size of a capture in millions of bytes, 16
-//! without it; the sheet program's file is 63 times as long.
+//! `fields`; without one all of these are measured. `versions` is measured only where it is named, since it needs two
+//! versions of the library as shared objects, whose paths `BLOSSOMAXLE_BEFORE` and `BLOSSOMAXLE_NOW` have.
+//! `BLOSSOMAXLE_SPEED_MB` is the size of a capture in millions of bytes, 16 without it; the sheet program's file is 63
+//! times as long.
 
 mod captures;
 mod checksums;
+mod field_functions;
 mod fields;
+mod interface;
+mod loaded;
 mod messages;
 mod plain;
 mod readers;
-mod readings;
 mod report;
 mod rules;
+mod shared;
 mod sheet;
 mod sums;
 mod timing;
+mod versions;
 mod zlib;
 
 use std::env;
 use std::process::exit;
 
-const PARTS: [&str; 4] = ["captures", "checksums", "sheet", "readings"];
+const PARTS: [&str; 5] = ["captures", "checksums", "sheet", "fields", "versions"];
 
 fn main() {
     // cargo gives options of its own.
@@ -29,8 +35,10 @@ fn main() {
     if let Some(word) = words.iter().find(|word| !PARTS.contains(&word.as_str())) {
         stop(&format!("there is no part `{word}`: name some of {}", PARTS.join(", ")));
     }
-    let chosen = |part: &str| words.is_empty() || words.iter().any(|word| word == part);
+    let named = |part: &str| words.iter().any(|word| word == part);
+    let chosen = |part: &str| words.is_empty() || named(part);
     let size = size();
+    let versions = named("versions").then(|| versions::load().unwrap_or_else(|why| stop(&why)));
     report::head(size);
     if chosen("captures") {
         readers::measure(size);
@@ -42,8 +50,11 @@ fn main() {
     if chosen("sheet") {
         sheet::measure(size);
     }
-    if chosen("readings") {
-        readings::measure();
+    if chosen("fields") {
+        field_functions::measure();
+    }
+    if let Some(versions) = versions {
+        versions::measure(&versions, size);
     }
 }
 

@@ -9,9 +9,9 @@ use blossomaxle::{Reader, Refusal, MAX_OUTPUT};
 use std::hint::black_box;
 
 /// So much is read of the worst lines, and of all in pieces of one byte.
-const PREFIX: usize = 1_000_000;
+pub const PREFIX: usize = 1_000_000;
 
-const PIECES: [usize; 4] = [4096, 512, 64, 1];
+pub const PIECES: [usize; 4] = [4096, 512, 64, 1];
 
 /// Measures lines of so many bytes of every format.
 pub fn measure(size: usize) {
@@ -22,15 +22,9 @@ pub fn measure(size: usize) {
 }
 
 fn measure_format<F: Rules>(format: &str, size: usize) {
-    let lines = [
-        ("clean", captures::clean(F::FORMAT, size)),
-        ("damaged", captures::damaged(F::FORMAT, size)),
-        ("noise", captures::noise(size)),
-    ];
-    for (name, line) in &lines {
+    for (name, line) in &lines::<F>(size) {
         for piece in PIECES {
-            let line = if piece == 1 { &line[..line.len().min(PREFIX)] } else { line };
-            let speeds = speeds::<F>(name, line, piece);
+            let speeds = speeds::<F>(name, part(line, piece), piece);
             report::readers_row(&format!("{format} {name}"), piece, &speeds, goal(name, piece), "");
         }
     }
@@ -42,8 +36,26 @@ fn measure_format<F: Rules>(format: &str, size: usize) {
     }
 }
 
+/// The lines that goals are about, by their names.
+pub fn lines<F: Rules>(size: usize) -> [(&'static str, Vec<u8>); 3] {
+    [
+        ("clean", captures::clean(F::FORMAT, size)),
+        ("damaged", captures::damaged(F::FORMAT, size)),
+        ("noise", captures::noise(size)),
+    ]
+}
+
+/// So much of a line as is read in pieces of this length.
+pub fn part(line: &[u8], piece: usize) -> &[u8] {
+    if piece == 1 {
+        &line[..line.len().min(PREFIX)]
+    } else {
+        line
+    }
+}
+
 /// What the project wants of the library beside the hand-written reader.
-fn goal(name: &str, piece: usize) -> Goal {
+pub fn goal(name: &str, piece: usize) -> Goal {
     match (name, piece) {
         ("clean", 4096) => Some(1.0),
         (_, 4096 | 512) => Some(0.8),
@@ -83,7 +95,7 @@ fn by_library<F: Rules>(line: &[u8], piece: usize, out: &mut [u8; MAX_OUTPUT]) {
     each(line, piece, out, |piece, out| reader.piece(piece, out));
 }
 
-fn by_hand<F: Rules>(line: &[u8], piece: usize, out: &mut [u8; MAX_OUTPUT]) {
+pub fn by_hand<F: Rules>(line: &[u8], piece: usize, out: &mut [u8; MAX_OUTPUT]) {
     let mut reader = plain::Reader::<F>::fresh();
     each(line, piece, out, |piece, out| reader.piece(piece, out));
 }
@@ -92,15 +104,16 @@ fn by_copying(line: &[u8], piece: usize, out: &mut [u8; MAX_OUTPUT]) {
     each(line, piece, out, |piece, out| out[..piece.len()].copy_from_slice(piece));
 }
 
-/// Does the work on each piece; no answer and no output goes unused.
-fn each<T>(
+/// Does the work on each piece; no answer and no output goes unused. The answer is lent to `black_box`, since a copy of
+/// it would take time.
+pub fn each<T>(
     line: &[u8],
     piece: usize,
     out: &mut [u8; MAX_OUTPUT],
     mut work: impl FnMut(&[u8], &mut [u8; MAX_OUTPUT]) -> T,
 ) {
     for piece in line.chunks(piece) {
-        black_box(work(piece, out));
+        black_box(&work(piece, out));
         black_box(&mut *out);
     }
 }

@@ -7,6 +7,9 @@ use std::process::Command;
 /// The least that the project wants of a ratio, if it wants something.
 pub type Goal = Option<f64>;
 
+/// A row of two versions: its name, and the speed now over the one before.
+pub type Change = (String, f64);
+
 /// The machine, and how all is measured.
 pub fn head(size: usize) {
     let cpuinfo = fs::read_to_string("/proc/cpuinfo").unwrap_or_default();
@@ -17,10 +20,10 @@ pub fn head(size: usize) {
     println!("processor{}; {}", processor.trim_start(), rustc.trim());
     println!("Speeds are in MB/s, millions of bytes a second; a ratio is the library's speed over the other's.");
     println!(
-        "Medians of {ROUNDS} rounds in which the tasks take turns, of {FEW_ROUNDS} where one takes over a second;"
+        "Medians of {ROUNDS} rounds in which the tasks take turns, of {FEW_ROUNDS} where a round takes over a second;"
     );
     println!("of processor time, but of the sheet program and `cat` by the clock on the wall. Buffers are touched");
-    println!("before the first round and never cleared: the room stays in the caches, and so does a line of 1 MB;");
+    println!("before the first round and never cleared: the output stays in the caches, and so does a line of 1 MB;");
     println!("a longer one streams through them. A line has {} MB.", size as f64 / 1e6);
 }
 
@@ -61,20 +64,62 @@ pub fn checksums_row(name: &str, len: usize, speeds: impl Iterator<Item = f64>, 
     println!("{}", format!("{row}  {}", judged(ratio(&speeds[1]), goal)).trim_end());
 }
 
-pub fn readings_head(frames: usize) {
+pub fn fields_head(frames: usize) {
     println!();
-    println!("Readings of fields: nanoseconds for a frame by all readings of a row, over {frames} good frames.");
-    println!("Each reading judges its frame anew. By hand MGL has CRC-32 by slicing by 8, and NMEA one vector pass.");
+    println!("Field functions: nanoseconds for a frame by all functions of a row, over {frames} good frames.");
+    println!("Each function judges its frame anew. By hand MGL has CRC-32 by slicing by 8, and NMEA one vector pass.");
     println!("OnFlight by hand reduces Fletcher's sums at each byte, as the reader by hand does: sums of another kind");
-    println!("are faster, and beside them these ratios are lower.");
-    println!("{:<38}{:>9}{:>9}{:>8}", "readings", "library", "by hand", "/hand");
+    println!("are faster, and beside them these ratios are lower. `exported` are the functions by hand in the form of");
+    println!("the library's: through a C function that returns 21 values, MGL frames judged by a function apart.");
+    print!("{:<38}{:>9}{:>9}{:>8}", "field functions", "library", "by hand", "/hand");
+    println!("{:>10}{:>11}", "exported", "/exported");
 }
 
-/// A row: seconds for a frame by the library and by hand.
-pub fn readings_row(name: &str, times: [f64; 2], goal: Goal) {
+/// A row: seconds for a frame by the library, by hand, and by hand through the library's interface if that is measured.
+pub fn fields_row(name: &str, times: [f64; 2], exported: Option<f64>, goal: Goal) {
     let [library, hand] = times.map(|time| time * 1e9);
     let ratio = hand / library;
-    println!("{name:<38}{library:>9.1}{hand:>9.1}{ratio:>8.2}  {}", judged(ratio, goal));
+    let exported = match exported.map(|time| time * 1e9) {
+        Some(exported) => format!("{exported:>10.1}{:>11.2}", exported / library),
+        None => format!("{:>21}", ""),
+    };
+    println!("{name:<38}{library:>9.1}{hand:>9.1}{ratio:>8.2}{exported}  {}", judged(ratio, goal));
+}
+
+pub fn versions_head(prefix: usize) {
+    let prefix = prefix as f64 / 1e6;
+    println!();
+    println!("Two versions of the library, and the reader by hand: MB/s. In pieces of 1 byte, {prefix} MB is read.");
+    print!("{:<17}{:>5}{:>9}{:>9}{:>9}", "line", "piece", "before", "now", "by hand");
+    println!("{:>13}{:>10}{:>12}", "before/hand", "now/hand", "now/before");
+}
+
+/// A row: bytes a second of the version before, the one now, and the reader by hand.
+pub fn versions_row(line: &str, piece: usize, speeds: [f64; 3]) -> Change {
+    let [before, now, hand] = speeds.map(|speed| speed / 1e6);
+    let ratios = format!("{:>13.2}{:>10.2}{:>12.2}", before / hand, now / hand, now / before);
+    println!("{line:<17}{piece:>5}{before:>9.1}{now:>9.1}{hand:>9.1}{ratios}");
+    (format!("{line} {piece}"), now / before)
+}
+
+pub fn version_fields_head(frames: usize) {
+    println!();
+    println!("Field functions of both: nanoseconds of a call of `capture_read`, over {frames} good frames.");
+    println!("{:<22}{:>9}{:>9}{:>12}", "field function", "before", "now", "now/before");
+}
+
+/// A row: seconds of a call of the version before and of the one now. The ratio is of speeds.
+pub fn version_fields_row(name: &str, times: [f64; 2]) -> Change {
+    let [before, now] = times.map(|time| time * 1e9);
+    println!("{name:<22}{before:>9.1}{now:>9.1}{:>12.2}", before / now);
+    (name.to_string(), before / now)
+}
+
+/// The row that gained least, or lost most.
+pub fn least(changes: &[Change]) {
+    if let Some((name, ratio)) = changes.iter().min_by(|(_, one), (_, other)| one.total_cmp(other)) {
+        println!("\nleast: {name}, {ratio:.2}");
+    }
 }
 
 /// Seconds of the sheet program and of `cat` on a long file, and the program's peak memory on this and on a short one.

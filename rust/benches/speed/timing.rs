@@ -23,7 +23,7 @@ extern "C" {
 
 const CLOCK_THREAD_CPUTIME_ID: c_int = 3;
 
-/// How long the thread has run. Other programs on the machine do not count.
+/// How long the thread has run. Time in which it does not run is not counted.
 fn processor_time() -> Duration {
     let mut time = Time::default();
     // SAFETY: the place is ours.
@@ -43,15 +43,18 @@ pub fn wall_medians(tasks: usize, task: impl FnMut(usize)) -> Vec<f64> {
     medians_by(|| start.elapsed(), tasks, task)
 }
 
-/// The tasks take turns, so that a change of the machine's speed meets all.
+/// The tasks take turns, so that a change of the machine's speed meets all, and every other round they take them in
+/// reverse, so that what one task leaves in the caches meets all.
 fn medians_by(clock: impl Fn() -> Duration, tasks: usize, mut task: impl FnMut(usize)) -> Vec<f64> {
     let mut times = vec![Vec::new(); tasks];
     let mut rounds = ROUNDS;
     while times[0].len() < rounds {
-        for (i, times) in times.iter_mut().enumerate() {
+        let reversed = times[0].len() % 2 == 1;
+        for turn in 0..tasks {
+            let i = if reversed { tasks - 1 - turn } else { turn };
             let began = clock();
             task(i);
-            times.push((clock() - began).as_secs_f64());
+            times[i].push((clock() - began).as_secs_f64());
         }
         if times.iter().map(|times| times[0]).sum::<f64>() > 1.0 {
             rounds = FEW_ROUNDS;

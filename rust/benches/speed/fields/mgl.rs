@@ -1,4 +1,4 @@
-//! The fields of MGL frames.
+//! The fields of MGL frames. A function judges the frame, and one of the same name with `_of` takes a whole frame.
 
 use super::{binary_clock, bytes_at, judge, Answer};
 use crate::rules::Mgl;
@@ -7,13 +7,16 @@ use blossomaxle::{Clock, Refusal};
 
 pub fn header(frame: &[u8]) -> Answer<Header> {
     judge::<Mgl>(frame)?;
+    header_of(frame)
+}
+
+pub fn header_of(frame: &[u8]) -> Answer<Header> {
     let [message_type, rate, count, version] = bytes_at(frame, 4);
     Ok(Header { message_type, rate, count, version })
 }
 
 /// A frame of this message type, version 1 and this length.
 fn message<const LEN: usize>(frame: &[u8], kind: u8) -> Answer<&[u8; LEN]> {
-    judge::<Mgl>(frame)?;
     match <&[u8; LEN]>::try_from(frame) {
         Ok(frame) if frame[4] == kind && frame[7] == 1 => Ok(frame),
         _ => Err(Refusal::OtherMessage),
@@ -21,12 +24,22 @@ fn message<const LEN: usize>(frame: &[u8], kind: u8) -> Answer<&[u8; LEN]> {
 }
 
 pub fn clock(frame: &[u8]) -> Answer<Clock> {
+    judge::<Mgl>(frame)?;
+    clock_of(frame)
+}
+
+pub fn clock_of(frame: &[u8]) -> Answer<Clock> {
     let frame = message::<44>(frame, 1)?;
     let [hour, minute, second, day, month, year] = bytes_at(frame, 32);
     Ok(binary_clock([year, month, day, hour, minute, second], 2000, 99))
 }
 
 pub fn gps(frame: &[u8]) -> Answer<Gps> {
+    judge::<Mgl>(frame)?;
+    gps_of(frame)
+}
+
+pub fn gps_of(frame: &[u8]) -> Answer<Gps> {
     let frame = message::<56>(frame, 2)?;
     let [mode, tracked, visible, horizontal_accuracy, vertical_accuracy, capability] = bytes_at(frame, 42);
     if mode > 5 {
@@ -59,7 +72,6 @@ pub fn gps(frame: &[u8]) -> Answer<Gps> {
 
 /// The tanks of a fuel message.
 fn tanks(frame: &[u8]) -> Answer<&[u8]> {
-    judge::<Mgl>(frame)?;
     // A body has 9 to 264 bytes, so that this one has 12 to 260.
     if frame[4] != 11 || frame[7] != 1 || frame.len() % 8 != 0 {
         return Err(Refusal::OtherMessage);
@@ -72,10 +84,20 @@ fn tanks(frame: &[u8]) -> Answer<&[u8]> {
 }
 
 pub fn fuel_count(frame: &[u8]) -> Answer<u32> {
+    judge::<Mgl>(frame)?;
+    fuel_count_of(frame)
+}
+
+pub fn fuel_count_of(frame: &[u8]) -> Answer<u32> {
     Ok((tanks(frame)?.len() / 8) as u32)
 }
 
 pub fn fuel_tank(frame: &[u8], item: u32) -> Answer<Tank> {
+    judge::<Mgl>(frame)?;
+    fuel_tank_of(frame, item)
+}
+
+pub fn fuel_tank_of(frame: &[u8], item: u32) -> Answer<Tank> {
     let tank = tanks(frame)?.chunks_exact(8).nth(item as usize).ok_or(Refusal::OutOfForm)?;
     Ok(Tank {
         level: i32::from_le_bytes(bytes_at(tank, 0)),

@@ -2,19 +2,19 @@
 //!
 //! Every function with a row is compared on doubtful frames by itself. Without a row are `boot_time`, `elapsed`,
 //! `input_voltage` and `load_factor` of OnFlight, and the three bodies: they judge like the others, and give one field
-//! or a part of the slice.
+//! or a part of the slice. Those of `fields::exported` are compared with the library's in the same way.
 
-use crate::fields;
+use crate::fields::{self, Answer};
 use crate::messages::{self, FRAMES};
 use crate::report;
 use crate::timing::medians;
-use blossomaxle::{Format, Refusal};
+use blossomaxle::{mgl, Format, Refusal};
 use std::collections::BTreeSet;
 use std::fmt::Debug;
 use std::hint::black_box;
 
 /// The times that all frames are read in a round.
-const PASSES: usize = 25;
+pub const PASSES: usize = 25;
 
 /// What the project wants of each row.
 const GOAL: f64 = 0.8;
@@ -33,60 +33,81 @@ const ONLY_FIELD: &[u32] = &[0, 7, 9];
 
 /// Measures the field functions of every format.
 pub fn measure() {
-    report::readings_head(FRAMES);
+    report::fields_head(FRAMES);
     measure_mgl();
     measure_onflight();
     measure_nmea();
 }
 
 /// Compares each function of a row by itself, and measures all together, as `library` and `hand` have them. `black_box`
-/// hides that they have the same frame, so that each judges it.
+/// hides that they have the same frame, so that each judges it. The last part is the row's functions exported, if they
+/// are.
 macro_rules! row {
-    ($name:literal, $format:expr, $maker:path, $($reading:ident $answers:ident),+) => {
+    ($name:literal, $format:expr, $maker:path, $($function:ident $answers:ident),+) => {
+        row!($name, $format, $maker, $($function $answers),+; None::<fn(&[u8]) -> Answer<_>>);
+    };
+    ($name:literal, $format:expr, $maker:path, $($function:ident $answers:ident),+; $exported:expr) => {
         let frames = messages::doubtful($format, $maker);
-        $(compare(stringify!($reading), &frames, $answers, library::$reading, hand::$reading);)+
+        $(compare(stringify!($function), &frames, $answers, library::$function, hand::$function);)+
         time(
             $name,
             &messages::good($format, $maker),
-            |frame| Ok(($(library::$reading(black_box(frame))?,)+)),
-            |frame| Ok(($(hand::$reading(black_box(frame))?,)+)),
+            |frame| Ok(($(library::$function(black_box(frame))?,)+)),
+            |frame| Ok(($(hand::$function(black_box(frame))?,)+)),
+            $exported,
         );
+    };
+}
+
+/// A row of one function that `fields::exported` has too.
+macro_rules! exported_row {
+    ($name:literal, $format:expr, $maker:path, $function:ident $answers:ident) => {
+        let frames = messages::doubtful($format, $maker);
+        compare(stringify!($function), &frames, $answers, library::$function, fields::exported::$function);
+        row!($name, $format, $maker, $function $answers; Some(|frame: &[u8]| {
+            Ok((fields::exported::$function(black_box(frame))?,))
+        }));
     };
 }
 
 fn measure_mgl() {
     use blossomaxle::mgl as library;
     use fields::mgl as hand;
-    row!("MGL header", Format::Mgl, messages::gps, header FRAME);
-    row!("MGL clock", Format::Mgl, messages::primary, clock MESSAGE);
-    row!("MGL GPS", Format::Mgl, messages::gps, gps FIELD);
+    exported_row!("MGL header", Format::Mgl, messages::gps, header FRAME);
+    exported_row!("MGL clock", Format::Mgl, messages::primary, clock MESSAGE);
+    exported_row!("MGL GPS", Format::Mgl, messages::gps, gps FIELD);
     measure_fuel();
 }
 
 fn measure_fuel() {
     use blossomaxle::mgl as library;
-    use fields::mgl as hand;
+    use fields::{exported, mgl as hand};
     for frames in [messages::fuel, messages::many_tanks].map(|maker| messages::doubtful(Format::Mgl, maker)) {
-        compare("fuel_count", &frames, FIELD, library::fuel_count, hand::fuel_count);
-        let tank = |item| {
-            answers("fuel_tank", &frames, |frame| library::fuel_tank(frame, item), |frame| hand::fuel_tank(frame, item))
-        };
-        expect("fuel_tank", (0..=32).flat_map(tank).collect(), FIELD);
+        compare_fuel(&frames, hand::fuel_count, hand::fuel_tank);
+        compare_fuel(&frames, exported::fuel_count, exported::fuel_tank);
     }
     time(
         "MGL fuel: count, each tank",
         &messages::good(Format::Mgl, messages::fuel),
         |frame| fuel(frame, library::fuel_count, library::fuel_tank),
         |frame| fuel(frame, hand::fuel_count, hand::fuel_tank),
+        Some(|frame: &[u8]| fuel(frame, exported::fuel_count, exported::fuel_tank)),
     );
 }
 
+/// Compares functions for fuel with the library's, at every item that a frame can have and at one more.
+fn compare_fuel(
+    frames: &[Vec<u8>],
+    count: impl Fn(&[u8]) -> Answer<u32>,
+    tank: impl Fn(&[u8], u32) -> Answer<mgl::Tank>,
+) {
+    compare("fuel_count", frames, FIELD, mgl::fuel_count, count);
+    let numbers = |item| answers("fuel_tank", frames, |frame| mgl::fuel_tank(frame, item), |frame| tank(frame, item));
+    expect("fuel_tank", (0..=32).flat_map(numbers).collect(), FIELD);
+}
+
 /// The number of tanks, after each was read.
-fn fuel<T>(
-    frame: &[u8],
-    count: impl Fn(&[u8]) -> Result<u32, Refusal>,
-    tank: impl Fn(&[u8], u32) -> Result<T, Refusal>,
-) -> Result<u32, Refusal> {
+fn fuel<T>(frame: &[u8], count: impl Fn(&[u8]) -> Answer<u32>, tank: impl Fn(&[u8], u32) -> Answer<T>) -> Answer<u32> {
     let count = count(black_box(frame))?;
     for item in 0..count {
         black_box(tank(black_box(frame), item)?);
@@ -126,28 +147,38 @@ fn measure_nmea() {
     use blossomaxle::nmea as library;
     use fields::nmea as hand;
     let format = Format::Nmea;
-    row!("RMC clock", format, messages::rmc, rmc_clock FIELD);
-    row!("RMC position", format, messages::rmc, rmc_position FIELD);
-    row!("RMC status", format, messages::rmc, rmc_status FIELD);
+    exported_row!("RMC clock", format, messages::rmc, rmc_clock FIELD);
+    exported_row!("RMC position", format, messages::rmc, rmc_position FIELD);
+    exported_row!("RMC status", format, messages::rmc, rmc_status FIELD);
     row!("RMC clock, position, status", format, messages::rmc, rmc_clock FIELD, rmc_position FIELD, rmc_status FIELD);
-    row!("PLARS setting", format, messages::plars, setting FIELD);
+    exported_row!("PLARS setting", format, messages::plars, setting FIELD);
 }
 
 /// Measures a row on good frames. Its functions hide their frames from the compiler.
 fn time<T: PartialEq + Debug>(
     name: &str,
     frames: &[Vec<u8>],
-    library: impl Fn(&[u8]) -> Result<T, Refusal>,
-    hand: impl Fn(&[u8]) -> Result<T, Refusal>,
+    library: impl Fn(&[u8]) -> Answer<T>,
+    hand: impl Fn(&[u8]) -> Answer<T>,
+    exported: Option<impl Fn(&[u8]) -> Answer<T>>,
 ) {
     assert_eq!(answers(name, frames, &library, &hand), [0].into(), "{name}: a good frame is refused");
-    let times = medians(2, |task| if task == 0 { repeat(frames, &library) } else { repeat(frames, &hand) });
-    report::readings_row(name, [0, 1].map(|task| times[task] / (PASSES * FRAMES) as f64), Some(GOAL));
+    if let Some(exported) = &exported {
+        answers(name, frames, &library, exported);
+    }
+    let tasks = if exported.is_some() { 3 } else { 2 };
+    let times = medians(tasks, |task| match (task, &exported) {
+        (0, _) => repeat(frames, &library),
+        (2, Some(exported)) => repeat(frames, exported),
+        _ => repeat(frames, &hand),
+    });
+    let times: Vec<f64> = times.iter().map(|time| time / (PASSES * FRAMES) as f64).collect();
+    report::fields_row(name, [times[0], times[1]], times.get(2).copied(), Some(GOAL));
 }
 
-fn repeat<T>(frames: &[Vec<u8>], readings: impl Fn(&[u8]) -> T) {
+fn repeat<T>(frames: &[Vec<u8>], functions: impl Fn(&[u8]) -> T) {
     for frame in (0..PASSES).flat_map(|_| frames) {
-        black_box(readings(frame));
+        black_box(&functions(frame));
     }
 }
 
@@ -156,8 +187,8 @@ fn compare<T: PartialEq + Debug>(
     name: &str,
     frames: &[Vec<u8>],
     expected: &[u32],
-    library: impl Fn(&[u8]) -> Result<T, Refusal>,
-    hand: impl Fn(&[u8]) -> Result<T, Refusal>,
+    library: impl Fn(&[u8]) -> Answer<T>,
+    hand: impl Fn(&[u8]) -> Answer<T>,
 ) {
     expect(name, answers(name, frames, library, hand), expected);
 }
@@ -170,12 +201,12 @@ fn expect(name: &str, given: BTreeSet<u32>, expected: &[u32]) {
 fn answers<T: PartialEq + Debug>(
     name: &str,
     frames: &[Vec<u8>],
-    library: impl Fn(&[u8]) -> Result<T, Refusal>,
-    hand: impl Fn(&[u8]) -> Result<T, Refusal>,
+    library: impl Fn(&[u8]) -> Answer<T>,
+    hand: impl Fn(&[u8]) -> Answer<T>,
 ) -> BTreeSet<u32> {
     let number = |frame: &Vec<u8>| {
         let answers = (library(frame), hand(frame));
-        assert_eq!(answers.0, answers.1, "{name}: the library and the reading by hand differ on {frame:X?}");
+        assert_eq!(answers.0, answers.1, "{name}: the library and the function by hand differ on {frame:X?}");
         answers.0.map_or_else(Refusal::number, |_| 0)
     };
     frames.iter().map(number).collect()
