@@ -34,17 +34,23 @@ pub fn frame_len(format: u32, bytes: &[u8]) -> usize {
 }
 
 /// The values that a field function answers for a frame.
+///
+/// This and the functions that call it for a frame are `#[inline]`: a caller then takes the values where the library
+/// wrote them. Otherwise each answer is written and copied once more.
+#[inline]
 pub fn read(function: u32, frame: &[u8]) -> Result<Row, Refusal> {
     read_item(function, 0, frame)
 }
 
 /// The values that a field function answers for an item of a frame.
+#[inline]
 pub fn read_item(function: u32, item: u32, frame: &[u8]) -> Result<Row, Refusal> {
     // SAFETY: the slice is initialised and only read.
     Row::judge(unsafe { ffi::capture_read(function, item, frame.as_ptr(), frame.len()) })
 }
 
 /// The part of a frame whose place a field function answers.
+#[inline]
 pub fn part(function: u32, frame: &[u8]) -> Result<&[u8], Refusal> {
     let mut row = read(function, frame)?;
     Ok(&frame[row.next()..row.next()])

@@ -38,6 +38,7 @@ pub enum Field {
 }
 
 impl Clock {
+    #[inline]
     pub(crate) fn from_row(mut row: Row) -> Clock {
         let (answer, seconds) = (row.next(), row.next());
         match answer {

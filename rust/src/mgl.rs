@@ -90,6 +90,7 @@ pub struct Tank {
 /// let length = mgl::write(header, b"twelve bytes", &mut out).unwrap();
 /// assert_eq!(mgl::body(&out[..length]), Ok(&b"twelve bytes"[..]));
 /// ```
+#[inline]
 pub fn body(frame: &[u8]) -> Result<&[u8], Refusal> {
     call::part(function::MGL_BODY, frame)
 }
@@ -104,6 +105,7 @@ pub fn body(frame: &[u8]) -> Result<&[u8], Refusal> {
 /// mgl::write(header, &[0; 12], &mut out).unwrap();
 /// assert_eq!(mgl::header(&out), Ok(header));
 /// ```
+#[inline]
 pub fn header(frame: &[u8]) -> Result<Header, Refusal> {
     let mut row = call::read(function::MGL_HEADER, frame)?;
     Ok(Header { message_type: row.next(), rate: row.next(), count: row.next(), version: row.next() })
@@ -124,6 +126,7 @@ pub fn header(frame: &[u8]) -> Result<Header, Refusal> {
 /// assert_eq!((gps.latitude, gps.mode), (-8_900_000, 2));
 /// assert!(gps.valid && !gps.altitude_valid);
 /// ```
+#[inline]
 pub fn gps(frame: &[u8]) -> Result<Gps, Refusal> {
     let mut row = call::read(function::MGL_GPS, frame)?;
     Ok(Gps {
@@ -162,6 +165,7 @@ pub fn gps(frame: &[u8]) -> Result<Gps, Refusal> {
 /// mgl::write(header, &body, &mut out).unwrap();
 /// assert_eq!(mgl::fuel_count(&out), Ok(2));
 /// ```
+#[inline]
 pub fn fuel_count(frame: &[u8]) -> Result<u32, Refusal> {
     Ok(call::read(function::MGL_FUEL_COUNT, frame)?.next())
 }
@@ -177,6 +181,7 @@ pub fn fuel_count(frame: &[u8]) -> Result<u32, Refusal> {
 /// assert_eq!(mgl::fuel_tank(&out, 0), Ok(mgl::Tank { level: 50, kind: 1, on: 1, sensors: 512 }));
 /// assert_eq!(mgl::fuel_tank(&out, 1), Err(Refusal::OutOfForm));
 /// ```
+#[inline]
 pub fn fuel_tank(frame: &[u8], item: u32) -> Result<Tank, Refusal> {
     let mut row = call::read_item(function::MGL_FUEL_TANK, item, frame)?;
     Ok(Tank { level: row.next(), kind: row.next(), on: row.next(), sensors: row.next() })
@@ -194,6 +199,7 @@ pub fn fuel_tank(frame: &[u8], item: u32) -> Result<Tank, Refusal> {
 /// mgl::write(header, &body, &mut out).unwrap();
 /// assert_eq!(mgl::clock(&out), Ok(Clock::Good(1_687_009_783)));
 /// ```
+#[inline]
 pub fn clock(frame: &[u8]) -> Result<Clock, Refusal> {
     call::read(function::MGL_CLOCK, frame).map(Clock::from_row)
 }

@@ -64,6 +64,7 @@ pub struct Setting {
 /// ```
 /// assert_eq!(blossomaxle::nmea::body(b"$PLARB,12.33*4C\r\n"), Ok(&b"PLARB,12.33"[..]));
 /// ```
+#[inline]
 pub fn body(frame: &[u8]) -> Result<&[u8], Refusal> {
     call::part(function::NMEA_BODY, frame)
 }
@@ -76,6 +77,7 @@ pub fn body(frame: &[u8]) -> Result<&[u8], Refusal> {
 /// let frame = b"$GPRMC,134943.69,A,4829.57602,N,1026.79034,E,057.0,081.9,170623,,,A*67\r\n";
 /// assert_eq!(nmea::rmc_clock(frame), Ok(Clock::Good(1_687_009_783)));
 /// ```
+#[inline]
 pub fn rmc_clock(frame: &[u8]) -> Result<Clock, Refusal> {
     call::read(function::RMC_CLOCK, frame).map(Clock::from_row)
 }
@@ -89,6 +91,7 @@ pub fn rmc_clock(frame: &[u8]) -> Result<Clock, Refusal> {
 /// let position = nmea::rmc_position(frame).unwrap();
 /// assert_eq!(position, nmea::Position { latitude: 290_957_602, longitude: 62_679_034 });
 /// ```
+#[inline]
 pub fn rmc_position(frame: &[u8]) -> Result<Position, Refusal> {
     let mut row = call::read(function::RMC_POSITION, frame)?;
     Ok(Position { latitude: row.next(), longitude: row.next() })
@@ -102,6 +105,7 @@ pub fn rmc_position(frame: &[u8]) -> Result<Position, Refusal> {
 /// let frame = b"$GPRMC,134943.69,A,4829.57602,N,1026.79034,E,057.0,081.9,170623,,,A*67\r\n";
 /// assert_eq!(nmea::rmc_status(frame), Ok(nmea::Status::Valid));
 /// ```
+#[inline]
 pub fn rmc_status(frame: &[u8]) -> Result<Status, Refusal> {
     let letter = call::read(function::RMC_STATUS, frame)?.next();
     Ok(named([Status::Valid, Status::Warning], |status| status as i64, letter))
@@ -115,6 +119,7 @@ pub fn rmc_status(frame: &[u8]) -> Result<Status, Refusal> {
 /// let setting = nmea::setting(b"$PLARS,H,QNH,1031.4*76\r\n").unwrap();
 /// assert_eq!(setting, Setting { source: Source::Host, parameter: Parameter::Qnh, value: 10_314 });
 /// ```
+#[inline]
 pub fn setting(frame: &[u8]) -> Result<Setting, Refusal> {
     let mut row = call::read(function::PLARS_SETTING, frame)?;
     let parameters = [Parameter::MacCready, Parameter::Ballast, Parameter::Bugs, Parameter::Qnh];
@@ -125,9 +130,14 @@ pub fn setting(frame: &[u8]) -> Result<Setting, Refusal> {
     })
 }
 
-/// The case with a number. The library gives no number but theirs.
+/// The case with a number. The library gives no number but theirs. Each case is looked at, so that no jump depends on
+/// which it is.
 fn named<T: Copy, const N: usize>(cases: [T; N], number_of: fn(T) -> i64, number: i64) -> T {
-    cases.into_iter().find(|case| number_of(*case) == number).unwrap_or_else(|| misfit(number))
+    let case = cases.into_iter().fold(cases[0], |found, case| if number_of(case) == number { case } else { found });
+    if number_of(case) != number {
+        misfit(number);
+    }
+    case
 }
 
 /// Writes a sentence at the start of the output, and says how long it is: 6 bytes more than the body.

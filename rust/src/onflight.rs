@@ -54,6 +54,7 @@ pub struct Position {
 /// onflight::write(&[7; 152], &mut frame).unwrap();
 /// assert_eq!(onflight::body(&frame), Ok(&[7; 152][..]));
 /// ```
+#[inline]
 pub fn body(frame: &[u8]) -> Result<&[u8], Refusal> {
     call::part(function::ONFLIGHT_BODY, frame)
 }
@@ -67,6 +68,7 @@ pub fn body(frame: &[u8]) -> Result<&[u8], Refusal> {
 /// onflight::write(&[7; 152], &mut frame).unwrap();
 /// assert_eq!(onflight::status(&frame), Ok([7; 6]));
 /// ```
+#[inline]
 pub fn status(frame: &[u8]) -> Result<[u8; 6], Refusal> {
     let mut row = call::read(function::ONFLIGHT_STATUS, frame)?;
     Ok(std::array::from_fn(|_| row.next()))
@@ -81,6 +83,7 @@ pub fn status(frame: &[u8]) -> Result<[u8; 6], Refusal> {
 /// onflight::write(&[255; 152], &mut frame).unwrap();
 /// assert_eq!(onflight::set_bits(&frame), Ok(42));
 /// ```
+#[inline]
 pub fn set_bits(frame: &[u8]) -> Result<u32, Refusal> {
     Ok(call::read(function::ONFLIGHT_SET_BITS, frame)?.next())
 }
@@ -94,6 +97,7 @@ pub fn set_bits(frame: &[u8]) -> Result<u32, Refusal> {
 /// onflight::write(&[1; 152], &mut frame).unwrap();
 /// assert_eq!(onflight::boot_time(&frame), Ok(0x0101_0101));
 /// ```
+#[inline]
 pub fn boot_time(frame: &[u8]) -> Result<u32, Refusal> {
     Ok(call::read(function::ONFLIGHT_BOOT_TIME, frame)?.next())
 }
@@ -125,6 +129,7 @@ pub fn elapsed(from: &[u8], to: &[u8]) -> Result<u32, Refusal> {
 /// onflight::write(&payload, &mut frame).unwrap();
 /// assert_eq!(onflight::clock(&frame), Ok(Clock::Wrong(Field::Day)));
 /// ```
+#[inline]
 pub fn clock(frame: &[u8]) -> Result<Clock, Refusal> {
     call::read(function::ONFLIGHT_CLOCK, frame).map(Clock::from_row)
 }
@@ -138,6 +143,7 @@ pub fn clock(frame: &[u8]) -> Result<Clock, Refusal> {
 /// onflight::write(&[250; 152], &mut frame).unwrap();
 /// assert_eq!(onflight::voltages(&frame), Ok(onflight::Voltages { input: 250, filtered: 250 }));
 /// ```
+#[inline]
 pub fn voltages(frame: &[u8]) -> Result<Voltages, Refusal> {
     let mut row = call::read(function::ONFLIGHT_VOLTAGES, frame)?;
     Ok(Voltages { input: row.next(), filtered: row.next() })
@@ -152,6 +158,7 @@ pub fn voltages(frame: &[u8]) -> Result<Voltages, Refusal> {
 /// onflight::write(&[250; 152], &mut frame).unwrap();
 /// assert_eq!(onflight::input_voltage(&frame), Ok(10.0));
 /// ```
+#[inline]
 pub fn input_voltage(frame: &[u8]) -> Result<f64, Refusal> {
     call::ratio(ratio::ONFLIGHT_INPUT_VOLTAGE, frame)
 }
@@ -167,6 +174,7 @@ pub fn input_voltage(frame: &[u8]) -> Result<f64, Refusal> {
 /// onflight::write(&payload, &mut frame).unwrap();
 /// assert_eq!(onflight::load_factor(&frame), Ok(-1.5));
 /// ```
+#[inline]
 pub fn load_factor(frame: &[u8]) -> Result<f64, Refusal> {
     call::ratio(ratio::ONFLIGHT_LOAD_FACTOR, frame)
 }
@@ -180,6 +188,7 @@ pub fn load_factor(frame: &[u8]) -> Result<f64, Refusal> {
 /// onflight::write(&[255; 152], &mut frame).unwrap();
 /// assert_eq!(onflight::accelerations(&frame), Ok(onflight::Axes { x: -1, y: -1, z: -1 }));
 /// ```
+#[inline]
 pub fn accelerations(frame: &[u8]) -> Result<Axes, Refusal> {
     axes(function::ONFLIGHT_ACCELERATIONS, frame)
 }
@@ -193,6 +202,7 @@ pub fn accelerations(frame: &[u8]) -> Result<Axes, Refusal> {
 /// onflight::write(&[1; 152], &mut frame).unwrap();
 /// assert_eq!(onflight::gyros(&frame), Ok(onflight::Axes { x: 257, y: 257, z: 257 }));
 /// ```
+#[inline]
 pub fn gyros(frame: &[u8]) -> Result<Axes, Refusal> {
     axes(function::ONFLIGHT_GYROS, frame)
 }
@@ -211,6 +221,7 @@ fn axes(function: u32, frame: &[u8]) -> Result<Axes, Refusal> {
 /// onflight::write(&[255; 152], &mut frame).unwrap();
 /// assert_eq!(onflight::pressure(&frame), Ok(131_070));
 /// ```
+#[inline]
 pub fn pressure(frame: &[u8]) -> Result<u32, Refusal> {
     Ok(call::read(function::ONFLIGHT_PRESSURE, frame)?.next())
 }
@@ -229,6 +240,7 @@ pub fn pressure(frame: &[u8]) -> Result<u32, Refusal> {
 /// onflight::write(&payload, &mut frame).unwrap();
 /// assert_eq!(onflight::fix(&frame), Err(Refusal::OutOfForm));
 /// ```
+#[inline]
 pub fn fix(frame: &[u8]) -> Result<Fix, Refusal> {
     let mut row = call::read(function::ONFLIGHT_FIX, frame)?;
     Ok(Fix { fix: row.next(), satellites: row.next() })
@@ -243,6 +255,7 @@ pub fn fix(frame: &[u8]) -> Result<Fix, Refusal> {
 /// onflight::write(&[255; 152], &mut frame).unwrap();
 /// assert_eq!(onflight::gnss_position(&frame), Ok(onflight::Position { latitude: -1, longitude: -1 }));
 /// ```
+#[inline]
 pub fn gnss_position(frame: &[u8]) -> Result<Position, Refusal> {
     position(function::ONFLIGHT_GNSS_POSITION, frame)
 }
@@ -256,6 +269,7 @@ pub fn gnss_position(frame: &[u8]) -> Result<Position, Refusal> {
 /// onflight::write(&[0; 152], &mut frame).unwrap();
 /// assert_eq!(onflight::ins_position(&frame), Ok(onflight::Position { latitude: 0, longitude: 0 }));
 /// ```
+#[inline]
 pub fn ins_position(frame: &[u8]) -> Result<Position, Refusal> {
     position(function::ONFLIGHT_INS_POSITION, frame)
 }
@@ -274,6 +288,7 @@ fn position(function: u32, frame: &[u8]) -> Result<Position, Refusal> {
 /// onflight::write(&[0; 152], &mut frame).unwrap();
 /// assert_eq!(onflight::gnss_altitude(&frame), Ok(-10_000));
 /// ```
+#[inline]
 pub fn gnss_altitude(frame: &[u8]) -> Result<i32, Refusal> {
     Ok(call::read(function::ONFLIGHT_GNSS_ALTITUDE, frame)?.next())
 }
@@ -287,6 +302,7 @@ pub fn gnss_altitude(frame: &[u8]) -> Result<i32, Refusal> {
 /// onflight::write(&[255; 152], &mut frame).unwrap();
 /// assert_eq!(onflight::ins_altitude(&frame), Ok(55_535));
 /// ```
+#[inline]
 pub fn ins_altitude(frame: &[u8]) -> Result<i32, Refusal> {
     Ok(call::read(function::ONFLIGHT_INS_ALTITUDE, frame)?.next())
 }

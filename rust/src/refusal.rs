@@ -90,12 +90,14 @@ impl Refusal {
     /// assert_eq!(Refusal::from_number(2), Some(Refusal::Closed));
     /// assert_eq!(Refusal::from_number(99), Some(Refusal::Other(99)));
     /// ```
+    #[inline]
     pub fn from_number(number: u32) -> Option<Refusal> {
         let before = number.checked_sub(1)? as usize;
         Some(KNOWN.get(before).map_or(Refusal::Other(number), |(refusal, _)| *refusal))
     }
 
     /// What the library answered: done, or refused.
+    #[inline]
     pub(crate) fn judge(number: u32) -> Result<(), Refusal> {
         Refusal::from_number(number).map_or(Ok(()), Err)
     }

@@ -11,12 +11,14 @@ pub struct Row {
 
 impl Row {
     /// The values, or the refusal.
+    #[inline]
     pub fn judge(answer: ffi::Values) -> Result<Row, Refusal> {
         Refusal::judge(answer.number).map(|()| Row { values: answer.values, taken: 0 })
     }
 
     /// The next value. The library promises that it fits; where it does not, the library is not the one that this
     /// crate was written for, and nothing it says can be used.
+    #[inline]
     pub fn next<T: TryFrom<i64>>(&mut self) -> T {
         let value = *self.values.get(self.taken).expect("no field function has more values than an answer holds");
         self.taken += 1;
@@ -24,6 +26,7 @@ impl Row {
     }
 
     /// The next value as a mark: 0 for no, any other number for yes.
+    #[inline]
     pub fn next_mark(&mut self) -> bool {
         self.next::<i64>() != 0
     }

@@ -4,30 +4,28 @@ use super::refused;
 use super::row;
 use super::shared;
 use nmea_plars::SettingResult;
-use nmea_rmc::rmc::Status;
 use nmea_rmc::rmc::StatusResult;
 ghost use mathlib.Core.Path.{_≡_};
 ghost use lib.ListN.{getD};
 ghost use Rattle.framing.specs.Format.{nmea};
-ghost use Rattle.nmea_rmc.specs.Rmc.{letter, rmcStatusAnswer};
+ghost use Rattle.nmea_rmc.specs.Rmc.{rmcStatusAnswer};
 ghost use Rattle.nmea_plars.specs.Plars.{settingAnswer};
 ghost use Rattle.capture_values.specs.Values.{valuesOf, numberValues, settingValues};
 ghost use Rattle.capture_values.specs.FieldFunctions.{noFunction, fieldFunctions};
-
-fn letter_of(status: Status) -> u8
-    ensures { λ r. ⌜ r ≡ letter status ⌝ }
-{
-    match status {
-        Status::Valid => b'A',
-        Status::Warning => b'V',
-    }
-}
 
 fn status_values(r: StatusResult) -> Values
     ensures { λ v. ⌜ v ≡ valuesOf numberValues (rmcStatusAnswer r) ⌝ }
 {
     match r {
-        StatusResult::Read(status) => row(0, letter_of(status) as i64, 0, 0, 0, 0, 0),
+        StatusResult::Read(status) => row(
+            0,
+            nmea_rmc::rmc::letter_of(status) as i64,
+            0,
+            0,
+            0,
+            0,
+            0,
+        ),
         StatusResult::Refused(r) => refused(r),
     }
 }

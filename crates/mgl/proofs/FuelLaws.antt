@@ -1,6 +1,6 @@
--- Laws of the fuel functions: the body's first number as a count, and how the answer for a tank goes on from that for the count.
+-- Laws of the fuel functions: the body's first number as a count, the bytes of a tank, and how the answer for a tank goes on from that for the count.
 -- Assumes nothing.
-use Prim.Native.Nat.{ℕ, _^_, _<_, _≤_}
+use Prim.Native.Nat.{ℕ, _+_, _*_, _^_, _<_, _≤_}
 use mathlib.Core.Path.{_≡_, refl, sym, ap, _∙_}
 use mathlib.Core.Bool.{Bool, true, false, cond}
 use mathlib.Core.List.{List}
@@ -8,9 +8,11 @@ use native.Mathlib.Decide.{decLt}
 use native.Mathlib.Omega.{arith}
 use lib.Dec.{eqb, ltb}
 use lib.IntN.{ℤ}
+use lib.ListN.{length, getD, take, drop}
 use borrow.Author.Tests.{eq-eqb, ne-eqb, lt-ltb, le-ltb}
 use mir.Syntax.{w32}
 use Rattle.numbers.specs.Low.{low, signed}
+use Rattle.numbers.proofs.Part.{part-byte, part-low}
 use Rattle.numbers.proofs.Signed.{small, below-zero}
 use Rattle.framing.specs.Format.{mgl, longest}
 use Rattle.answer.specs.Answer.{Answer, given, refused, unless, refusalNumber}
@@ -44,6 +46,31 @@ module _ (s : List ℕ) {n : ℕ} (h : isFrame mgl s ≡ true) (e : n ≡ low 4 
   pub count-wrong : (n ≡ tanks s → ⊥) → countAgrees s ≡ false
   count-wrong d = count-test ∙ ne-eqb n (tanks s) d
 
+-- the n bytes from `at` on are those of tank i: their numbers are the tank
+module _ (s : List ℕ) (i : ℕ) {at n : ℕ} (a : at ≡ 12 + 8 * i) (b : n ≡ 8) where
+  tank-byte : (j m : ℕ) → m ≡ 12 + 8 * i + j → j < 8 → getD (take n (drop at s)) j 0 ≡ getD s m 0
+  tank-byte j m e h = part-byte s at n j (omega arith) ∙ ap (λ (x : ℕ). getD s x 0) (omega arith)
+
+  tank-low : (k j m : ℕ) → m ≡ 12 + 8 * i + j → j + k ≤ 8 → low k (take n (drop at s)) j ≡ low k s m
+  tank-low k j m e h = part-low s at n k j (omega arith) ∙ ap (λ (x : ℕ). low k s x) (omega arith)
+
+  pub tank-part : {level : ℤ} {kind on sensors : ℕ}
+      → level ≡ signed w32 (low 4 (take n (drop at s)) 0) → kind ≡ getD (take n (drop at s)) 4 0
+      → on ≡ getD (take n (drop at s)) 5 0 → sensors ≡ low 2 (take n (drop at s)) 6
+      → record { level = level; kind = kind; on = on; sensors = sensors } ≡ tankAt s i
+  unfolding tankAt
+  tank-part level kind on sensors =
+      cc (
+        level,
+        tank-low 4 0 (8 + (4 + 8 * i)) (omega arith) (omega arith),
+        kind,
+        tank-byte 4 (8 + (4 + 8 * i + 4)) (omega arith) (omega arith),
+        on,
+        tank-byte 5 (8 + (4 + 8 * i + 5)) (omega arith) (omega arith),
+        sensors,
+        tank-low 2 6 (8 + (4 + 8 * i + 6)) (omega arith) (omega arith),
+      )
+
 -- where the count is not refused the tank's answer goes on with it, and else both refuse alike
 abbrev onward : Answer ℕ → (ℕ → Answer Tank) → Answer Tank
 onward a f = cond (eqb (a .number) 0) (f (a .value)) (refused noTank (a .number))
@@ -54,6 +81,12 @@ same-tests false b d k f = refl
 same-tests true false d k f = refl
 same-tests true true false k f = refl
 same-tests true true true k f = refl
+
+count-most : (a b d : Bool) (k : ℕ) → unless 0 a 7 (unless 0 b 8 (unless 0 d 9 (given k))) .value ≤ k
+count-most false b d k = omega arith
+count-most true false d k = omega arith
+count-most true true false k = omega arith
+count-most true true true k = omega arith
 
 module _ (s : List ℕ) (i : ℕ) where
   abbrev judged : ℕ → Answer Tank
@@ -74,6 +107,13 @@ module _ (s : List ℕ) (i : ℕ) where
     module _ {k : ℕ} (d : a ≡ Read k) where
       counted-on : judged k ≡ tankOf s i
       counted-on = rw d at goes-on
+
+      pub tank-inside : i < k → 8 + (4 + 8 * i) + 8 ≤ length s
+      unfolding tankCountOf tanks
+      tank-inside h =
+          let v : k ≡ tankCountOf s .value = ap (λ (x : Answer ℕ). x .value) (rw d at e) in
+          let m : tankCountOf s .value ≤ tanks s = count-most (isFrame mgl s) (isFuel s) (countAgrees s) (tanks s) in
+          omega arith
 
       pub tank-past : k ≤ i → refused noTank 9 ≡ tankOf s i
       tank-past h = fails _ (le-ltb i k h) ∙ counted-on

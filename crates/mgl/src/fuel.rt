@@ -2,6 +2,8 @@
 use answer::Refusal;
 use content::NumberResult;
 ghost use mathlib.Core.Path.{_≡_};
+ghost use Prim.Native.Nat.{_+_, _*_, _≤_};
+ghost use lib.ListN.{length};
 ghost use Rattle.content.specs.Shared.{numberAnswer};
 ghost use Rattle.mgl.specs.Fuel.{isFuel, tankCountOf, tankAnswer, tankAt, tankOf};
 
@@ -49,16 +51,18 @@ pub fn read_count(s: &[u8]) -> NumberResult
     NumberResult::Read(k)
 }
 
-// Tank i of a frame, from 0.
+// Tank i of a frame, from 0. Its eight bytes are taken first: their length is a constant, so that no byte is tested for being there.
 fn tank_at(s: &[u8], i: u32) -> Tank
+    requires { ⌜ 8 + (4 + 8 * i) + 8 ≤ length (now s) ⌝ }
     ensures { λ r. ⌜ r ≡ tankAt (now (s .entry)) i ⌝ }
 {
-    let at = 4 + 8 * i as usize;
+    let at = 12 + 8 * i as usize;
+    let tank = &s[at..at + 8];
     Tank {
-        level: numbers::i32_at(s, 8 + at),
-        kind: numbers::byte_at(s, 8, at + 4),
-        on: numbers::byte_at(s, 8, at + 5),
-        sensors: numbers::u16_at(s, 8 + (at + 6)),
+        level: numbers::i32_at(tank, 0),
+        kind: numbers::byte_at(tank, 0, 4),
+        on: numbers::byte_at(tank, 0, 5),
+        sensors: numbers::u16_at(tank, 6),
     }
 }
 

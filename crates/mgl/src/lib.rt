@@ -30,10 +30,10 @@ pub fn read_header(s: &[u8]) -> HeaderResult
         return HeaderResult::Refused(Refusal::NotOneFrame);
     }
     HeaderResult::Read(Header {
-        message_type: numbers::byte_at(s, 4, 0),
-        rate: numbers::byte_at(s, 5, 0),
-        count: numbers::byte_at(s, 6, 0),
-        version: numbers::byte_at(s, 7, 0),
+        message_type: s[4],
+        rate: s[5],
+        count: s[6],
+        version: s[7],
     })
 }
 

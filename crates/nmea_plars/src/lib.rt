@@ -193,7 +193,8 @@ pub fn read_setting(s: &[u8]) -> SettingResult
         return SettingResult::Refused(r);
     }
     let body = content::between(3, s);
-    let from = nmea_sentence::from_field(body, 1);
+    // The tag has five bytes.
+    let from = nmea_sentence::after_field(body, 5);
     let source = nmea_sentence::field(from, 0);
     let from2 = nmea_sentence::after_field(from, source.len());
     let name = nmea_sentence::field(from2, 0);

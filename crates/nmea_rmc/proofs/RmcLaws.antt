@@ -1,7 +1,7 @@
--- What the forms of a time and a date say of each byte.
+-- What the forms of a time and a date say of each byte; and that a status has one of the two letters.
 -- Assumes nothing.
 use mathlib.Core.Path.{_≡_, refl, sym, subst}
-use mathlib.Core.Bool.{Bool, true, false, cond, _&&_}
+use mathlib.Core.Bool.{Bool, true, false, cond, _&&_, _||_}
 use mathlib.Core.List.{List, [], _∷_}
 use Prim.Native.Nat.{ℕ, zero, suc, _+_, _<_, _≤_}
 use native.Mathlib.Omega.{arith}
@@ -12,7 +12,9 @@ use lib.Seq.{take-all, getD-take, length-take-le}
 use borrow.Author.Tests.{le-leb}
 use Rattle.nmea_sentence.specs.declared.Digits.the-variants.{Of, None}
 use Rattle.nmea_sentence.specs.Digits.{allDigits, decimal, digitsOf}
-use Rattle.nmea_rmc.specs.Rmc.{isTime, isDate}
+use Rattle.nmea_rmc.specs.Rmc.{isTime, isDate, letter}
+use Rattle.nmea_rmc.specs.declared.rmc.Status.{Status}
+use Rattle.nmea_rmc.specs.declared.rmc.Status.the-variants.{Valid, Warning}
 
 -- ---- digits
 
@@ -65,3 +67,9 @@ module _ (s : List ℕ) where
       let t : T (eqb (length s) 6 && allDigits s) = subst T (sym e) tt in
       let n = eqb→eq (length s) 6 (and-l (eqb (length s) 6) (allDigits s) t) in
       (omega arith, rw (take-all 6 s (omega arith)) (and-r (eqb (length s) 6) (allDigits s) t))
+
+-- ---- a status
+
+pub is-letter : (x : Status) → eqb (letter x) 0x41 || eqb (letter x) 0x56 ≡ true
+is-letter Valid = refl
+is-letter Warning = refl

@@ -9,12 +9,14 @@ use content::PositionResult;
 use nmea_sentence::Digits;
 ghost use mathlib.Core.Path.{_≡_};
 ghost use Prim.Native.Nat.{_≤_};
+ghost use mathlib.Core.Bool.{true};
 ghost use lib.Dec.{T};
 ghost use lib.ListN.{length, take};
 ghost use Rattle.content.specs.Shared.{judgedNumber, clockAnswer, positionAnswer};
 ghost use Rattle.nmea_sentence.specs.Digits.{allDigits};
-ghost use Rattle.nmea_sentence.specs.Judge.{refusalOf};
-ghost use Rattle.nmea_rmc.specs.Rmc.{rmcTag, isTime, isDate, twoAt, fieldsClock, rmcClockOf, bodyPosition, rmcPositionOf, rmcStatusAnswer, fieldStatus, rmcStatusOf};
+ghost use Rattle.nmea_sentence.specs.Fields.{fromField};
+ghost use Rattle.nmea_sentence.specs.Judge.{hasTag, refusalOf};
+ghost use Rattle.nmea_rmc.specs.Rmc.{rmcTag, isTime, isDate, twoAt, fieldsClock, rmcClockOf, bodyPosition, rmcPositionOf, letter, rmcStatusAnswer, fieldStatus, rmcStatusOf};
 
 // What the receiver says of its data: A is valid, V is a navigation receiver warning.
 pub enum Status {
@@ -32,6 +34,14 @@ fn judge(s: &[u8]) -> Judged
     ensures { λ r. ⌜ judgedNumber r ≡ refusalOf rmcTag 13 (now (s .entry)) ⌝ }
 {
     nmea_sentence::judge(s, b"GPRMC", 13)
+}
+
+// The bytes of a body from field 1 on: those after the five of its tag and the comma.
+fn after_tag(body: &[u8]) -> &[u8]
+    requires { ⌜ hasTag rmcTag (now body) ≡ true ⌝ }
+    ensures { λ r. ⌜ now r ≡ fromField (now (body .entry)) 1 ⌝ }
+{
+    nmea_sentence::after_field(body, 5)
 }
 
 // Whether all of at most nine bytes are digits.
@@ -114,7 +124,7 @@ pub fn read_clock(s: &[u8]) -> ClockResult
         return ClockResult::Refused(r);
     }
     let body = content::between(3, s);
-    let from = nmea_sentence::from_field(body, 1);
+    let from = after_tag(body);
     let time = nmea_sentence::field(from, 0);
     let rest = nmea_sentence::after_field(from, time.len());
     clock_of(time, nmea_sentence::field(rest, 7))
@@ -122,9 +132,10 @@ pub fn read_clock(s: &[u8]) -> ClockResult
 
 // The two angles of a body, each with its hemisphere: fields 3 to 6, each found from the one before it.
 fn position_of(body: &[u8]) -> PositionResult
+    requires { ⌜ hasTag rmcTag (now body) ≡ true ⌝ }
     ensures { λ r. ⌜ positionAnswer r ≡ bodyPosition (now (body .entry)) ⌝ }
 {
-    let from3 = nmea_sentence::from_field(body, 3);
+    let from3 = nmea_sentence::from_field(after_tag(body), 2);
     let lat = nmea_sentence::field(from3, 0);
     let from4 = nmea_sentence::after_field(from3, lat.len());
     let lat_side = nmea_sentence::field(from4, 0);
@@ -154,20 +165,31 @@ pub fn read_position(s: &[u8]) -> PositionResult
     position_of(content::between(3, s))
 }
 
-// One letter, A or V.
+pub fn letter_of(status: Status) -> u8
+    ensures { λ r. ⌜ r ≡ letter status ⌝ }
+{
+    match status {
+        Status::Valid => b'A',
+        Status::Warning => b'V',
+    }
+}
+
+// One letter, A or V. One comparison tells which of them it can be, and another whether it is that one: so no jump depends on which it is.
 fn status_of(s: &[u8]) -> StatusResult
     ensures { λ r. ⌜ rmcStatusAnswer r ≡ fieldStatus (now (s .entry)) ⌝ }
 {
     if s.len() != 1 {
         return StatusResult::Refused(Refusal::OutOfForm);
     }
-    if s[0] == b'A' {
-        return StatusResult::Read(Status::Valid);
+    let b = s[0];
+    let mut status = Status::Warning;
+    if b < b'V' {
+        status = Status::Valid;
     }
-    if s[0] == b'V' {
-        return StatusResult::Read(Status::Warning);
+    if b != letter_of(status) {
+        return StatusResult::Refused(Refusal::OutOfForm);
     }
-    StatusResult::Refused(Refusal::OutOfForm)
+    StatusResult::Read(status)
 }
 
 pub fn read_status(s: &[u8]) -> StatusResult
@@ -177,5 +199,8 @@ pub fn read_status(s: &[u8]) -> StatusResult
     if let Judged::Refused(r) = judged {
         return StatusResult::Refused(r);
     }
-    status_of(nmea_sentence::field(content::between(3, s), 2))
+    let from = after_tag(content::between(3, s));
+    let time = nmea_sentence::field(from, 0);
+    let rest = nmea_sentence::after_field(from, time.len());
+    status_of(nmea_sentence::field(rest, 0))
 }

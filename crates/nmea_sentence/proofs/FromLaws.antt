@@ -6,12 +6,14 @@ use mathlib.Core.Bool.{Bool, true, false, cond}
 use mathlib.Core.List.{List, [], _∷_}
 use native.Mathlib.Numerals.{add-one}
 use native.Mathlib.Omega.{arith}
-use lib.Dec.{eqb}
+use lib.Dec.{T, eqb}
 use lib.ListN.{length, getD, take, drop, length-drop, drop-of-length-le}
 use lib.Seq.{drop-cons, take-all}
 use borrow.Author.Tests.{eq-eqb, ne-eqb}
 use Rattle.nmea_sentence.specs.Fields.{before, fields, fieldAt, fromField}
+use Rattle.nmea_sentence.specs.Judge.{hasTag}
 use Rattle.nmea_sentence.proofs.JoinLaws.{fields-some}
+use Rattle.nmea_sentence.proofs.JudgeLaws.{equal}
 
 -- ---- what they are
 
@@ -63,6 +65,11 @@ behind (b ∷ s) = go (eqb b 0x2C) (behind s)
         let e : length (getD (before false b (fields s)) 0 []) + 1 ≡ suc (length (getD (fields s) 0 []) + 1) = omega (arith, longer b (fields s) (fields-some s)) in
         rw e ih
 
+-- where the first is the tag
+pub behind-tag : (tag body : List ℕ) → hasTag tag body ≡ true → drop (length tag + 1) body ≡ fromField body 1
+unfolding hasTag
+behind-tag tag body h = ap (λ (f : List ℕ). drop (length f + 1) body) (sym (equal (fieldAt body 0) tag (subst T (sym h) tt))) ∙ behind body
+
 -- t is s from field n on
 pub record From (s : List ℕ) (n : ℕ) (t : List ℕ) : Type 0 where
   pub at : (i : ℕ) → fieldAt t i ≡ fieldAt s (n + i)
@@ -70,16 +77,17 @@ pub record From (s : List ℕ) (n : ℕ) (t : List ℕ) : Type 0 where
 pub from-start : (s : List ℕ) (n : ℕ) {t : List ℕ} → t ≡ fromField s n → From s n t
 from-start s n e = record { at = λ i. ap (λ (l : List ℕ). fieldAt l i) e ∙ from-at s n i }
 
--- f is its first field, and u what follows that
-pub from-next : {s t f u : List ℕ} {n : ℕ} → From s n t → f ≡ fieldAt t 0 → u ≡ drop (length f + 1) t → From s (suc n) u
-from-next {s} {t} {f} {u} {n} w p q = record {
+-- u is t from its field m on
+pub from-later : {s t u : List ℕ} {n : ℕ} (m : ℕ) → From s n t → u ≡ fromField t m → From s (n + m) u
+from-later {s} {t} {u} {n} m w e = record {
   at = λ i.
-      let e : n + (1 + i) ≡ suc n + i = omega arith in
-      ap (λ (l : List ℕ). fieldAt l i) (q ∙ ap (λ (g : List ℕ). drop (length g + 1) t) p ∙ behind t)
-      ∙ from-at t 1 i
-      ∙ w .at (1 + i)
-      ∙ ap (fieldAt s) e;
+      let a : n + (m + i) ≡ n + m + i = omega arith in
+      ap (λ (l : List ℕ). fieldAt l i) e ∙ from-at t m i ∙ w .at (m + i) ∙ ap (fieldAt s) a;
 }
+
+-- f is its first field, and u what follows that
+pub from-next : {s t f u : List ℕ} {n : ℕ} → From s n t → f ≡ fieldAt t 0 → u ≡ drop (length f + 1) t → From s (n + 1) u
+from-next {s} {t} w p q = from-later 1 w (q ∙ ap (λ (g : List ℕ). drop (length g + 1) t) p ∙ behind t)
 
 -- ---- the search
 

@@ -90,13 +90,21 @@ module _ {A : Type 0} (zeros : A) (tag : List ℕ) (count : ℕ) (s : List ℕ) 
       passing zeros answer (isFrame nmea s) (hasTag tag (bodyOf nmea s)) (eqb (length (fields (bodyOf nmea s))) count)
       (judgedNumber j) (ap judgedNumber h) e
 
-one-frame : (t u v : Bool) → 0 ≡ numberInOrder t u v → t ≡ true
-one-frame true u v e = refl
-one-frame false u v e = absurd (omega arith)
+frame-and-tag : (t u v : Bool) → 0 ≡ numberInOrder t u v → (t ≡ true) × (u ≡ true)
+frame-and-tag true true v e = (refl, refl)
+frame-and-tag true false v e = absurd (omega arith)
+frame-and-tag false u v e = absurd (omega arith)
 
--- where `judge` refused nothing, the sentence is one frame: its body is what is between its head and its tail
-pub judged-body : (tag : List ℕ) (count : ℕ) (s : List ℕ) (j : Judged) → judgedNumber j ≡ refusalOf tag count s → j ≡ Done → betweenOf nmea s ≡ bodyOf nmea s
-unfolding refusalOf
-judged-body tag count s j e h =
-    body-between nmea s
-    (one-frame (isFrame nmea s) (hasTag tag (bodyOf nmea s)) (eqb (length (fields (bodyOf nmea s))) count) (ap judgedNumber (sym h) ∙ e))
+-- where `judge` refused nothing
+module _ (tag : List ℕ) (count : ℕ) (s : List ℕ) (j : Judged) (e : judgedNumber j ≡ refusalOf tag count s) (h : j ≡ Done) where
+  held : (isFrame nmea s ≡ true) × (hasTag tag (bodyOf nmea s) ≡ true)
+  unfolding refusalOf
+  held = frame-and-tag (isFrame nmea s) (hasTag tag (bodyOf nmea s)) (eqb (length (fields (bodyOf nmea s))) count) (ap judgedNumber (sym h) ∙ e)
+
+  -- the sentence is one frame: its body is what is between its head and its tail
+  pub judged-body : betweenOf nmea s ≡ bodyOf nmea s
+  judged-body = body-between nmea s (held .0)
+
+  -- and begins with the tag
+  pub judged-tag : {b : List ℕ} → b ≡ betweenOf nmea s → hasTag tag b ≡ true
+  judged-tag b = ap (hasTag tag) (b ∙ judged-body) ∙ held .1

@@ -20,13 +20,9 @@ pub struct Row {
 }
 
 impl Row {
-    /// The values, or the refusal. The crate has `from_number` inlined, and here it is a call: 0 goes around it.
+    /// The values, or the refusal.
     pub fn judge(answer: Values) -> Result<Row, Refusal> {
-        let row = Row { values: answer.values, taken: 0 };
-        match answer.number {
-            0 => Ok(row),
-            number => Refusal::from_number(number).map_or(Ok(row), Err),
-        }
+        Refusal::from_number(answer.number).map_or(Ok(Row { values: answer.values, taken: 0 }), Err)
     }
 
     /// The next value. The check is the crate's, and is there to take the time that it takes there.

@@ -2,8 +2,6 @@
 //! function for each that takes the values as the crate's does, and with MGL frames judged by a function apart
 //! (`run.rs`). They come near to the library's form; what the library's own work costs beside it is at least the
 //! difference.
-//!
-//! The crate's functions are compiled in another crate, so that no caller has them inlined; these are not, either.
 
 use super::run::is_frame;
 use super::{mgl, nmea, Answer};
@@ -119,13 +117,11 @@ fn call(function: u32, item: u32, frame: &[u8]) -> Answer<Row> {
     Row::judge(unsafe { read(function, item, frame.as_ptr(), frame.len()) })
 }
 
-#[inline(never)]
 pub fn header(frame: &[u8]) -> Answer<Header> {
     let mut row = call(function::MGL_HEADER, 0, frame)?;
     Ok(Header { message_type: row.next(), rate: row.next(), count: row.next(), version: row.next() })
 }
 
-#[inline(never)]
 pub fn gps(frame: &[u8]) -> Answer<Gps> {
     let mut row = call(function::MGL_GPS, 0, frame)?;
     Ok(Gps {
@@ -153,23 +149,19 @@ pub fn gps(frame: &[u8]) -> Answer<Gps> {
     })
 }
 
-#[inline(never)]
 pub fn fuel_count(frame: &[u8]) -> Answer<u32> {
     Ok(call(function::MGL_FUEL_COUNT, 0, frame)?.next())
 }
 
-#[inline(never)]
 pub fn fuel_tank(frame: &[u8], item: u32) -> Answer<Tank> {
     let mut row = call(function::MGL_FUEL_TANK, item, frame)?;
     Ok(Tank { level: row.next(), kind: row.next(), on: row.next(), sensors: row.next() })
 }
 
-#[inline(never)]
 pub fn clock(frame: &[u8]) -> Answer<Clock> {
     call(function::MGL_CLOCK, 0, frame).map(clock_of)
 }
 
-#[inline(never)]
 pub fn rmc_clock(frame: &[u8]) -> Answer<Clock> {
     call(function::RMC_CLOCK, 0, frame).map(clock_of)
 }
@@ -189,19 +181,16 @@ fn clock_of(mut row: Row) -> Clock {
     }
 }
 
-#[inline(never)]
 pub fn rmc_position(frame: &[u8]) -> Answer<Position> {
     let mut row = call(function::RMC_POSITION, 0, frame)?;
     Ok(Position { latitude: row.next(), longitude: row.next() })
 }
 
-#[inline(never)]
 pub fn rmc_status(frame: &[u8]) -> Answer<Status> {
     let letter = call(function::RMC_STATUS, 0, frame)?.next();
     Ok(named([Status::Valid, Status::Warning], |status| status as i64, letter))
 }
 
-#[inline(never)]
 pub fn setting(frame: &[u8]) -> Answer<Setting> {
     let mut row = call(function::PLARS_SETTING, 0, frame)?;
     let parameters = [Parameter::MacCready, Parameter::Ballast, Parameter::Bugs, Parameter::Qnh];

@@ -2,7 +2,7 @@ use borrow.Author.Needs.{needs}
 use mathlib.Core.Path.{_∙_}
 use mir.Syntax.{w32}
 use Rattle.numbers.proofs.Size.{stays}
-use Rattle.nmea_sentence.proofs.FromLaws.{from-start, from-next}
+use Rattle.nmea_sentence.proofs.FromLaws.{from-start, from-later, from-next}
 use Rattle.nmea_rmc.proofs.rmc.position_of.Statement.{statement}
 use Rattle.nmea_rmc.proofs.rmc.position_of.Tie as tie
 
@@ -10,6 +10,7 @@ pub position-of-spec : {M : Type 1} → statement M
 position-of-spec =
     tie.close
     (tie.spec
+    (λ c κs. c .before .pre)
     (λ c κs. search needs)
     (λ c κs. search needs)
     (λ c κs. search needs)
@@ -20,7 +21,7 @@ position-of-spec =
     (λ c.
     let north = c .before .before .before .before .before .field .ensures in
     let side = c .before .before .before .field2 .ensures in
-    let from3 = from-start _ 3 (c .before .before .before .before .before .before .from-field .ensures) in
+    let from3 = from-later 2 (from-start _ 1 (c .before .before .before .before .before .before .before .after-tag .ensures)) (c .before .before .before .before .before .before .from-field .ensures) in
     let from4 = from-next from3 north (c .before .before .before .before .after-field .ensures) in
     rw (← north ∙ from3 .at 0, ← side ∙ from4 .at 0, ← c .before .before .latitude .ensures, c .enum-told .given .1))
     (λ c κs. search needs)
@@ -33,7 +34,7 @@ position-of-spec =
     (λ c.
     let north = c .before .before .before .before .before .before .before .before .before .before .before .before .before .field .ensures in
     let side = c .before .before .before .before .before .before .before .before .before .before .before .field2 .ensures in
-    let from3 = from-start _ 3 (c .before .before .before .before .before .before .before .before .before .before .before .before .before .before .from-field .ensures) in
+    let from3 = from-later 2 (from-start _ 1 (c .before .before .before .before .before .before .before .before .before .before .before .before .before .before .before .after-tag .ensures)) (c .before .before .before .before .before .before .before .before .before .before .before .before .before .before .from-field .ensures) in
     let from4 = from-next from3 north (c .before .before .before .before .before .before .before .before .before .before .before .before .after-field .ensures) in
     let east = c .before .before .before .before .before .field3 .ensures in
     let side2 = c .before .before .before .field4 .ensures in
@@ -52,7 +53,7 @@ position-of-spec =
     (λ c.
     let north = c .before .before .before .before .before .before .before .before .before .before .before .before .before .before .field .ensures in
     let side = c .before .before .before .before .before .before .before .before .before .before .before .before .field2 .ensures in
-    let from3 = from-start _ 3 (c .before .before .before .before .before .before .before .before .before .before .before .before .before .before .before .from-field .ensures) in
+    let from3 = from-later 2 (from-start _ 1 (c .before .before .before .before .before .before .before .before .before .before .before .before .before .before .before .before .after-tag .ensures)) (c .before .before .before .before .before .before .before .before .before .before .before .before .before .before .before .from-field .ensures) in
     let from4 = from-next from3 north (c .before .before .before .before .before .before .before .before .before .before .before .before .before .after-field .ensures) in
     let east = c .before .before .before .before .before .before .field3 .ensures in
     let side2 = c .before .before .before .before .field4 .ensures in
