@@ -35,8 +35,8 @@ pub fn frame_len(format: u32, bytes: &[u8]) -> usize {
 
 /// The values that a field function answers for a frame.
 ///
-/// This and the functions that call it for a frame are `#[inline]`: a caller then takes the values where the library
-/// wrote them. Otherwise each answer is written and copied once more.
+/// This and all field functions over it are `#[inline]`: a caller then takes the values where the library wrote them.
+/// Otherwise each answer is written and copied once more.
 #[inline]
 pub fn read(function: u32, frame: &[u8]) -> Result<Row, Refusal> {
     read_item(function, 0, frame)
@@ -57,6 +57,7 @@ pub fn part(function: u32, frame: &[u8]) -> Result<&[u8], Refusal> {
 }
 
 /// The float that a field function answers for a frame.
+#[inline]
 pub fn ratio(function: u32, frame: &[u8]) -> Result<f64, Refusal> {
     // SAFETY: the slice is initialised and only read.
     let answer = unsafe { ffi::capture_ratio(function, frame.as_ptr(), frame.len()) };

@@ -207,6 +207,7 @@ pub fn gyros(frame: &[u8]) -> Result<Axes, Refusal> {
     axes(function::ONFLIGHT_GYROS, frame)
 }
 
+#[inline]
 fn axes(function: u32, frame: &[u8]) -> Result<Axes, Refusal> {
     let mut row = call::read(function, frame)?;
     Ok(Axes { x: row.next(), y: row.next(), z: row.next() })
@@ -274,6 +275,7 @@ pub fn ins_position(frame: &[u8]) -> Result<Position, Refusal> {
     position(function::ONFLIGHT_INS_POSITION, frame)
 }
 
+#[inline]
 fn position(function: u32, frame: &[u8]) -> Result<Position, Refusal> {
     let mut row = call::read(function, frame)?;
     Ok(Position { latitude: row.next(), longitude: row.next() })

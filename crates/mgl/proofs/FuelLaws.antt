@@ -48,12 +48,6 @@ module _ (s : List ℕ) {n : ℕ} (h : isFrame mgl s ≡ true) (e : n ≡ low 4 
 
 -- the n bytes from `at` on are those of tank i: their numbers are the tank
 module _ (s : List ℕ) (i : ℕ) {at n : ℕ} (a : at ≡ 12 + 8 * i) (b : n ≡ 8) where
-  tank-byte : (j m : ℕ) → m ≡ 12 + 8 * i + j → j < 8 → getD (take n (drop at s)) j 0 ≡ getD s m 0
-  tank-byte j m e h = part-byte s at n j (omega arith) ∙ ap (λ (x : ℕ). getD s x 0) (omega arith)
-
-  tank-low : (k j m : ℕ) → m ≡ 12 + 8 * i + j → j + k ≤ 8 → low k (take n (drop at s)) j ≡ low k s m
-  tank-low k j m e h = part-low s at n k j (omega arith) ∙ ap (λ (x : ℕ). low k s x) (omega arith)
-
   pub tank-part : {level : ℤ} {kind on sensors : ℕ}
       → level ≡ signed w32 (low 4 (take n (drop at s)) 0) → kind ≡ getD (take n (drop at s)) 4 0
       → on ≡ getD (take n (drop at s)) 5 0 → sensors ≡ low 2 (take n (drop at s)) 6
@@ -62,13 +56,13 @@ module _ (s : List ℕ) (i : ℕ) {at n : ℕ} (a : at ≡ 12 + 8 * i) (b : n �
   tank-part level kind on sensors =
       cc (
         level,
-        tank-low 4 0 (8 + (4 + 8 * i)) (omega arith) (omega arith),
+        part-low s at n 4 0 {m = 8 + (4 + 8 * i)} (omega arith) (omega arith),
         kind,
-        tank-byte 4 (8 + (4 + 8 * i + 4)) (omega arith) (omega arith),
+        part-byte s at n 4 {m = 8 + (4 + 8 * i + 4)} (omega arith) (omega arith),
         on,
-        tank-byte 5 (8 + (4 + 8 * i + 5)) (omega arith) (omega arith),
+        part-byte s at n 5 {m = 8 + (4 + 8 * i + 5)} (omega arith) (omega arith),
         sensors,
-        tank-low 2 6 (8 + (4 + 8 * i + 6)) (omega arith) (omega arith),
+        part-low s at n 2 6 {m = 8 + (4 + 8 * i + 6)} (omega arith) (omega arith),
       )
 
 -- where the count is not refused the tank's answer goes on with it, and else both refuse alike
@@ -108,7 +102,7 @@ module _ (s : List ℕ) (i : ℕ) where
       counted-on : judged k ≡ tankOf s i
       counted-on = rw d at goes-on
 
-      pub tank-inside : i < k → 8 + (4 + 8 * i) + 8 ≤ length s
+      pub tank-inside : i < k → 12 + 8 * i + 8 ≤ length s
       unfolding tankCountOf tanks
       tank-inside h =
           let v : k ≡ tankCountOf s .value = ap (λ (x : Answer ℕ). x .value) (rw d at e) in

@@ -51,9 +51,10 @@ pub fn read_count(s: &[u8]) -> NumberResult
     NumberResult::Read(k)
 }
 
-// Tank i of a frame, from 0. Its eight bytes are taken first: their length is a constant, so that no byte is tested for being there.
+// Tank i of a frame, from 0, after the head of 8 bytes and the count of 4. Its eight bytes are a slice of constant length, so that the
+// compiler drops the tests of `byte_at`.
 fn tank_at(s: &[u8], i: u32) -> Tank
-    requires { ⌜ 8 + (4 + 8 * i) + 8 ≤ length (now s) ⌝ }
+    requires { ⌜ 12 + 8 * i + 8 ≤ length (now s) ⌝ }
     ensures { λ r. ⌜ r ≡ tankAt (now (s .entry)) i ⌝ }
 {
     let at = 12 + 8 * i as usize;

@@ -165,6 +165,7 @@ pub fn read_position(s: &[u8]) -> PositionResult
     position_of(content::between(3, s))
 }
 
+// The letter of a status.
 pub fn letter_of(status: Status) -> u8
     ensures { λ r. ⌜ r ≡ letter status ⌝ }
 {
@@ -174,7 +175,8 @@ pub fn letter_of(status: Status) -> u8
     }
 }
 
-// One letter, A or V. One comparison tells which of them it can be, and another whether it is that one: so no jump depends on which it is.
+// One letter, A or V. One below V can only be A, and any other only V: the second test decides. So the compiler makes no jump that
+// depends on the letter.
 fn status_of(s: &[u8]) -> StatusResult
     ensures { λ r. ⌜ rmcStatusAnswer r ≡ fieldStatus (now (s .entry)) ⌝ }
 {

@@ -37,6 +37,7 @@ pub fn measure() {
     measure_mgl();
     measure_onflight();
     measure_nmea();
+    measure_steps();
 }
 
 /// Compares each function of a row by itself, and measures all together, as `library` and `hand` have them. `black_box`
@@ -154,6 +155,34 @@ fn measure_nmea() {
     exported_row!("PLARS setting", format, messages::plars, setting FIELD);
 }
 
+/// What each part of the library's form costs two functions by hand.
+fn measure_steps() {
+    use fields::{exported, mgl as hand, steps};
+    report::steps_head();
+    let headers = messages::good(Format::Mgl, messages::gps);
+    let tanks = messages::good(Format::Mgl, messages::fuel);
+    let header = per_frame(medians(5, |step| match step {
+        0 => repeat(&headers, |frame| hand::header(black_box(frame))),
+        1 => repeat(&headers, |frame| steps::header_called(black_box(frame))),
+        2 => repeat(&headers, |frame| steps::header_apart(black_box(frame))),
+        3 => repeat(&headers, |frame| exported::header(black_box(frame))),
+        _ => repeat(&headers, |frame| mgl::header(black_box(frame))),
+    }));
+    let tank = per_frame(medians(5, |step| match step {
+        0 => repeat(&tanks, |frame| hand::fuel_tank(black_box(frame), 0)),
+        1 => repeat(&tanks, |frame| steps::tank_called(black_box(frame))),
+        2 => repeat(&tanks, |frame| steps::tank_apart(black_box(frame))),
+        3 => repeat(&tanks, |frame| exported::fuel_tank(black_box(frame), 0)),
+        _ => repeat(&tanks, |frame| mgl::fuel_tank(black_box(frame), 0)),
+    }));
+    report::steps(&header, &tank);
+}
+
+/// Seconds for a frame, of the seconds for a round.
+fn per_frame(times: Vec<f64>) -> Vec<f64> {
+    times.iter().map(|time| time / (PASSES * FRAMES) as f64).collect()
+}
+
 /// Measures a row on good frames. Its functions hide their frames from the compiler.
 fn time<T: PartialEq + Debug>(
     name: &str,
@@ -167,12 +196,11 @@ fn time<T: PartialEq + Debug>(
         answers(name, frames, &library, exported);
     }
     let tasks = if exported.is_some() { 3 } else { 2 };
-    let times = medians(tasks, |task| match (task, &exported) {
+    let times = per_frame(medians(tasks, |task| match (task, &exported) {
         (0, _) => repeat(frames, &library),
         (2, Some(exported)) => repeat(frames, exported),
         _ => repeat(frames, &hand),
-    });
-    let times: Vec<f64> = times.iter().map(|time| time / (PASSES * FRAMES) as f64).collect();
+    }));
     report::fields_row(name, [times[0], times[1]], times.get(2).copied(), Some(GOAL));
 }
 

@@ -7,6 +7,7 @@ pub mod mgl;
 pub mod nmea;
 pub mod onflight;
 mod run;
+pub mod steps;
 
 use crate::rules::{Look, Rules};
 use blossomaxle::{Clock, Field, Refusal};

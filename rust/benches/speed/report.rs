@@ -86,6 +86,20 @@ pub fn fields_row(name: &str, times: [f64; 2], exported: Option<f64>, goal: Goal
     println!("{name:<38}{library:>9.1}{hand:>9.1}{ratio:>8.2}{exported}  {}", judged(ratio, goal));
 }
 
+pub fn steps_head() {
+    println!();
+    println!("Two MGL functions by hand, in steps from inlined code to the library's form: nanoseconds.");
+    println!("{:<38}{:>9}{:>9}", "step", "header", "tank 0");
+}
+
+/// Seconds of each step, of the header and of a tank.
+pub fn steps(header: &[f64], tank: &[f64]) {
+    let names = ["inlined", "called", "called, the frame judged apart", "exported", "the library"];
+    for (name, (header, tank)) in names.iter().zip(header.iter().zip(tank)) {
+        println!("{name:<38}{:>9.1}{:>9.1}", header * 1e9, tank * 1e9);
+    }
+}
+
 pub fn versions_head(prefix: usize) {
     let prefix = prefix as f64 / 1e6;
     println!();

@@ -26,7 +26,8 @@ read-setting-spec =
     (λ c κs. search needs)
     (λ c κs. search needs)
     (λ c.
-    let j = c .before .before .before .before .before .before .before .before .before .before .judge .ensures in
+    let early = c .before .before .before .before .before .before .before .before in
+    let j = early .before .before .judge .ensures in
     let d = c .before .before .before .before .before .before .before .before .enum-told .given .1 in
     let body = c .before .before .before .before .before .before .before .between .ensures in
     let source = c .before .before .before .before .before .field .ensures in

@@ -1,7 +1,6 @@
 //! The field functions by hand in the library's form: behind a C function that answers a number and 21 values, with a
-//! function for each that takes the values as the crate's does, and with MGL frames judged by a function apart
-//! (`run.rs`). They come near to the library's form; what the library's own work costs beside it is at least the
-//! difference.
+//! function for each that takes the values as the crate's does and is inlined as it is, and with MGL frames judged by a
+//! function apart (`run.rs`). Where the library takes longer than these, the rest is its own work.
 
 use super::run::is_frame;
 use super::{mgl, nmea, Answer};
@@ -111,17 +110,20 @@ fn setting_values(setting: Setting) -> [i64; 3] {
 }
 
 /// Calls the C function. `black_box` hides which one it is, so that the compiler cannot make one for each number.
+#[inline(always)]
 fn call(function: u32, item: u32, frame: &[u8]) -> Answer<Row> {
     let read = black_box(read as Read);
     // SAFETY: the slice is initialised and only read.
     Row::judge(unsafe { read(function, item, frame.as_ptr(), frame.len()) })
 }
 
+#[inline(always)]
 pub fn header(frame: &[u8]) -> Answer<Header> {
     let mut row = call(function::MGL_HEADER, 0, frame)?;
     Ok(Header { message_type: row.next(), rate: row.next(), count: row.next(), version: row.next() })
 }
 
+#[inline(always)]
 pub fn gps(frame: &[u8]) -> Answer<Gps> {
     let mut row = call(function::MGL_GPS, 0, frame)?;
     Ok(Gps {
@@ -149,23 +151,28 @@ pub fn gps(frame: &[u8]) -> Answer<Gps> {
     })
 }
 
+#[inline(always)]
 pub fn fuel_count(frame: &[u8]) -> Answer<u32> {
     Ok(call(function::MGL_FUEL_COUNT, 0, frame)?.next())
 }
 
+#[inline(always)]
 pub fn fuel_tank(frame: &[u8], item: u32) -> Answer<Tank> {
     let mut row = call(function::MGL_FUEL_TANK, item, frame)?;
     Ok(Tank { level: row.next(), kind: row.next(), on: row.next(), sensors: row.next() })
 }
 
+#[inline(always)]
 pub fn clock(frame: &[u8]) -> Answer<Clock> {
     call(function::MGL_CLOCK, 0, frame).map(clock_of)
 }
 
+#[inline(always)]
 pub fn rmc_clock(frame: &[u8]) -> Answer<Clock> {
     call(function::RMC_CLOCK, 0, frame).map(clock_of)
 }
 
+#[inline(always)]
 fn clock_of(mut row: Row) -> Clock {
     let (answer, seconds) = (row.next(), row.next());
     match answer {
@@ -181,16 +188,19 @@ fn clock_of(mut row: Row) -> Clock {
     }
 }
 
+#[inline(always)]
 pub fn rmc_position(frame: &[u8]) -> Answer<Position> {
     let mut row = call(function::RMC_POSITION, 0, frame)?;
     Ok(Position { latitude: row.next(), longitude: row.next() })
 }
 
+#[inline(always)]
 pub fn rmc_status(frame: &[u8]) -> Answer<Status> {
     let letter = call(function::RMC_STATUS, 0, frame)?.next();
     Ok(named([Status::Valid, Status::Warning], |status| status as i64, letter))
 }
 
+#[inline(always)]
 pub fn setting(frame: &[u8]) -> Answer<Setting> {
     let mut row = call(function::PLARS_SETTING, 0, frame)?;
     let parameters = [Parameter::MacCready, Parameter::Ballast, Parameter::Bugs, Parameter::Qnh];
@@ -203,5 +213,9 @@ pub fn setting(frame: &[u8]) -> Answer<Setting> {
 
 /// The case with a number.
 fn named<T: Copy, const N: usize>(cases: [T; N], number_of: fn(T) -> i64, number: i64) -> T {
-    cases.into_iter().find(|case| number_of(*case) == number).unwrap_or_else(|| misfit(number))
+    let case = cases.into_iter().fold(cases[0], |found, case| if number_of(case) == number { case } else { found });
+    if number_of(case) != number {
+        misfit(number);
+    }
+    case
 }

@@ -1,4 +1,5 @@
-//! The fields of MGL frames. A function judges the frame, and one of the same name with `_of` takes a whole frame.
+//! The fields of MGL frames. A function judges the frame, and one of the same name with `_of` takes a whole frame. The
+//! latter has two callers, and is inlined to both.
 
 use super::{binary_clock, bytes_at, judge, Answer};
 use crate::rules::Mgl;
@@ -10,6 +11,7 @@ pub fn header(frame: &[u8]) -> Answer<Header> {
     header_of(frame)
 }
 
+#[inline(always)]
 pub fn header_of(frame: &[u8]) -> Answer<Header> {
     let [message_type, rate, count, version] = bytes_at(frame, 4);
     Ok(Header { message_type, rate, count, version })
@@ -28,6 +30,7 @@ pub fn clock(frame: &[u8]) -> Answer<Clock> {
     clock_of(frame)
 }
 
+#[inline(always)]
 pub fn clock_of(frame: &[u8]) -> Answer<Clock> {
     let frame = message::<44>(frame, 1)?;
     let [hour, minute, second, day, month, year] = bytes_at(frame, 32);
@@ -39,6 +42,7 @@ pub fn gps(frame: &[u8]) -> Answer<Gps> {
     gps_of(frame)
 }
 
+#[inline(always)]
 pub fn gps_of(frame: &[u8]) -> Answer<Gps> {
     let frame = message::<56>(frame, 2)?;
     let [mode, tracked, visible, horizontal_accuracy, vertical_accuracy, capability] = bytes_at(frame, 42);
@@ -88,6 +92,7 @@ pub fn fuel_count(frame: &[u8]) -> Answer<u32> {
     fuel_count_of(frame)
 }
 
+#[inline(always)]
 pub fn fuel_count_of(frame: &[u8]) -> Answer<u32> {
     Ok((tanks(frame)?.len() / 8) as u32)
 }
@@ -97,6 +102,7 @@ pub fn fuel_tank(frame: &[u8], item: u32) -> Answer<Tank> {
     fuel_tank_of(frame, item)
 }
 
+#[inline(always)]
 pub fn fuel_tank_of(frame: &[u8], item: u32) -> Answer<Tank> {
     let tank = tanks(frame)?.chunks_exact(8).nth(item as usize).ok_or(Refusal::OutOfForm)?;
     Ok(Tank {
