@@ -30,7 +30,7 @@ fn check_target() {
 fn given(dir: PathBuf) -> PathBuf {
     if !dir.join(ARCHIVE).is_file() {
         stop(&format!(
-            "no {ARCHIVE} in BLOSSOMAXLE_LIB_DIR ({}): build it with `rt staticlib capture`, or unset the variable",
+            "no {ARCHIVE} in BLOSSOMAXLE_LIB_DIR ({}): build it with `scripts/library capture`, or unset the variable",
             dir.display()
         ));
     }
@@ -42,13 +42,13 @@ fn built() -> PathBuf {
     let top = Path::new(env!("CARGO_MANIFEST_DIR")).join("..");
     let dir = top.join("target").join("staticlib");
     if !dir.join(ARCHIVE).is_file() {
-        let why = match Command::new("rt").args(["staticlib", "capture"]).current_dir(&top).status() {
+        let why = match Command::new(top.join("scripts").join("library")).arg("capture").status() {
             Ok(_) if dir.join(ARCHIVE).is_file() => return dir,
-            Ok(_) => "`rt staticlib capture` did not make it".to_string(),
-            Err(error) => format!("`rt` cannot be run ({error})"),
+            Ok(_) => "`scripts/library capture` did not make it".to_string(),
+            Err(error) => format!("`scripts/library` cannot be run ({error})"),
         };
         stop(&format!(
-            "no target/staticlib/{ARCHIVE}, and {why}: run `rt staticlib capture` in the repository's top folder, \
+            "no target/staticlib/{ARCHIVE}, and {why}: run `scripts/library capture` in the repository's top folder, \
              or set BLOSSOMAXLE_LIB_DIR to a folder that has the archive"
         ));
     }

@@ -1,9 +1,11 @@
 // Document 01's refusals, and the number of each.
+#![tactic(auto)]
+
 ghost use Rattle.std.specs.Prelude.{◌≡◌};
 ghost use Rattle.answer.specs.Answer.{refusal_number};
 
 // Why a call is refused. The cases are in the order of their numbers, 1 to 11.
-#[derive(Drop)]
+#[derive(Clone, Copy)]
 pub enum Refusal {
     // A piece longer than the longest.
     PieceTooLong,

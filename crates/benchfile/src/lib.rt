@@ -1,4 +1,5 @@
 // Bench files: the table of contents, judged from the first bytes and the file's length; and the text of a sheet.
+#![tactic(auto)]
 pub mod sheet;
 
 ghost use Rattle.std.specs.Prelude.{◌≡◌, ◌≤◌, ◌^◌, ◌<◌};
@@ -13,7 +14,7 @@ pub const MOST_ENTRIES: usize = 16;
 pub const LONGEST_TOC: usize = 1 + 6 * MOST_ENTRIES;
 
 // An entry: the format and port of a capture, its length, and where it starts in the file.
-#[derive(Drop)]
+#[derive(Clone, Copy)]
 pub struct Entry {
     pub format: u8,
     pub port: u8,
@@ -22,20 +23,20 @@ pub struct Entry {
 }
 
 // The length that the table of contents gives to its file.
-#[derive(Drop)]
+#[derive(Clone, Copy)]
 pub enum LengthResult {
     Read(u64),
     Refused(Refusal),
 }
 
 // The number of entries.
-#[derive(Drop)]
+#[derive(Clone, Copy)]
 pub enum CountResult {
     Read(u8),
     Refused(Refusal),
 }
 
-#[derive(Drop)]
+#[derive(Clone, Copy)]
 pub enum EntryResult {
     Read(Entry),
     Refused(Refusal),

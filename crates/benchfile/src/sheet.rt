@@ -4,7 +4,7 @@ ghost use Rattle.buffer.specs.Buffer.{copied};
 ghost use Rattle.benchfile.specs.Sheet.{sheet_line, sheet_text};
 
 // The five numbers of a sheet.
-#[derive(Drop)]
+#[derive(Clone, Copy)]
 pub struct Sheet {
     pub format: u32,
     pub frames: u32,

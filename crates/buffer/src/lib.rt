@@ -1,4 +1,6 @@
 // Copies bytes into a caller's buffer.
+#![tactic(auto)]
+
 ghost use Rattle.std.specs.Prelude.{◌≡◌, ◌+◌, ◌≤◌, leb, length};
 ghost use Rattle.std.proofs.Math.Seq.{paste};
 ghost use Rattle.buffer.specs.Buffer.{copied};

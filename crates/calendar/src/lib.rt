@@ -1,10 +1,12 @@
 // Clock times: seconds since 1970-01-01 00:00:00, or the first wrong field.
+#![tactic(auto)]
+
 ghost use Rattle.std.specs.Prelude.{cond, ◌≡◌, ℕ, ◌+◌, ◌-◌, ◌^◌, ◌≤◌, ◌<◌, ltb};
 ghost use Rattle.calendar.specs.Calendar.{leap, plain_days, month_days, years_to, months_to, days_to};
 ghost use Rattle.calendar.specs.Clocks.{seconds_of, clock_of, all_zero, binary_clock_of};
 
 // A date and a time of day, in numbers that may be wrong. The year's number counts from the first year of the format.
-#[derive(Drop)]
+#[derive(Clone, Copy)]
 pub struct DateTime {
     pub year: u8,
     pub month: u8,
@@ -14,7 +16,7 @@ pub struct DateTime {
     pub second: u8,
 }
 
-#[derive(Drop)]
+#[derive(Clone, Copy)]
 pub enum Field {
     Month,
     Day,
@@ -25,7 +27,7 @@ pub enum Field {
 }
 
 // What a clock says. (Document 01: "unset, good, or wrong with the first wrong field named".)
-#[derive(Drop)]
+#[derive(Clone, Copy)]
 pub enum Clock {
     Unset,
     // Seconds since 1970-01-01 00:00:00; below 0 before it.

@@ -1,4 +1,6 @@
-// The functions that are exported to C and Rust, as include/capture.h declares them. A slice is a pointer and a length there.
+// The functions that C and Rust call, for Rattle crates; capture_c exports them.
+#![tactic(auto)]
+
 ghost use Rattle.std.specs.Prelude.{◌≡◌, List, [], ℕ};
 ghost use Rattle.benchfile.specs.Toc.{entry_count_of};
 ghost use Rattle.framing.specs.Format.{format_of};
@@ -23,7 +25,7 @@ use nmea_plars::Setting;
 
 // Document 01's number, and how many bytes were written.
 #[repr(C)]
-#[derive(Drop)]
+#[derive(Clone, Copy)]
 pub struct Written {
     pub number: u32,
     pub length: usize,
@@ -31,22 +33,19 @@ pub struct Written {
 
 // ---- readers
 
-#[unsafe(no_mangle)]
-pub extern "C" fn capture_fresh(format: u32, reader: &mut [u8]) -> u32
+pub fn capture_fresh(format: u32, reader: &mut [u8]) -> u32
     ensures { lent result reader.new [] ≡ fresh_lent format reader.old }
 {
     reader_bytes::fresh(format, reader)
 }
 
-#[unsafe(no_mangle)]
-pub extern "C" fn capture_piece(reader: &mut [u8], piece: &[u8], out: &mut [u8]) -> u32
+pub fn capture_piece(reader: &mut [u8], piece: &[u8], out: &mut [u8]) -> u32
     ensures { lent result reader.new out.new ≡ serve_lent reader.old (a_piece piece.now out.old) }
 {
     reader_bytes::piece(reader, piece, out)
 }
 
-#[unsafe(no_mangle)]
-pub extern "C" fn capture_close(reader: &mut [u8], out: &mut [u8]) -> u32
+pub fn capture_close(reader: &mut [u8], out: &mut [u8]) -> u32
     ensures { lent result reader.new out.new ≡ serve_lent reader.old (a_close out.old) }
 {
     reader_bytes::close(reader, out)
@@ -54,8 +53,7 @@ pub extern "C" fn capture_close(reader: &mut [u8], out: &mut [u8]) -> u32
 
 // ---- frames
 
-#[unsafe(no_mangle)]
-pub extern "C" fn capture_frame_len(format: u32, bytes: &[u8]) -> usize
+pub fn capture_frame_len(format: u32, bytes: &[u8]) -> usize
     ensures { result ≡ frame_length (front (format_of format) bytes.now) }
 {
     frame_run::frame_length(format, bytes)
@@ -63,29 +61,25 @@ pub extern "C" fn capture_frame_len(format: u32, bytes: &[u8]) -> usize
 
 // ---- field functions
 
-#[unsafe(no_mangle)]
-pub extern "C" fn capture_read(function: u32, item: u32, frame: &[u8]) -> Values
+pub fn capture_read(function: u32, item: u32, frame: &[u8]) -> Values
     ensures { result ≡ read_values function item frame.now }
 {
     capture_values::read(function, item, frame)
 }
 
-#[unsafe(no_mangle)]
-pub extern "C" fn capture_ratio(function: u32, frame: &[u8]) -> Ratio
+pub fn capture_ratio(function: u32, frame: &[u8]) -> Ratio
     ensures { result ≡ ratio_of function frame.now }
 {
     capture_values::read_ratio(function, frame)
 }
 
-#[unsafe(no_mangle)]
-pub extern "C" fn capture_elapsed(from: &[u8], to: &[u8]) -> Values
+pub fn capture_elapsed(from: &[u8], to: &[u8]) -> Values
     ensures { result ≡ elapsed_values from.now to.now }
 {
     capture_values::elapsed(from, to)
 }
 
-#[unsafe(no_mangle)]
-pub extern "C" fn capture_gyro(number: i16) -> i32
+pub fn capture_gyro(number: i16) -> i32
     ensures { result ≡ hundredths_of number }
 {
     mgl_gyro::hundredths(number)
@@ -93,8 +87,7 @@ pub extern "C" fn capture_gyro(number: i16) -> i32
 
 // ---- writers
 
-#[unsafe(no_mangle)]
-pub extern "C" fn capture_write_gyro(rate: i32) -> Values
+pub fn capture_write_gyro(rate: i32) -> Values
     ensures { result ≡ gyro_values rate }
 {
     capture_values::write_gyro(rate)
@@ -125,8 +118,7 @@ fn header_in(n: u32) -> Header
     }
 }
 
-#[unsafe(no_mangle)]
-pub extern "C" fn capture_write(format: u32, header: u32, body: &[u8], out: &mut [u8]) -> Written
+pub fn capture_write(format: u32, header: u32, body: &[u8], out: &mut [u8]) -> Written
     ensures { written_answer result out.new ≡ write_frame (format_of format) (content_in header body.now) out.old }
 {
     match format {
@@ -140,13 +132,7 @@ pub extern "C" fn capture_write(format: u32, header: u32, body: &[u8], out: &mut
     }
 }
 
-#[unsafe(no_mangle)]
-pub extern "C" fn capture_write_setting(
-    source: u8,
-    parameter: u8,
-    value: u32,
-    out: &mut [u8],
-) -> Written
+pub fn capture_write_setting(source: u8, parameter: u8, value: u32, out: &mut [u8]) -> Written
     ensures { written_answer result out.new ≡ write_setting (record { source = source; parameter = parameter; value = value }) out.old }
 {
     let setting = Setting {
@@ -168,8 +154,7 @@ fn entries(first: &[u8], len: u64) -> u8
     }
 }
 
-#[unsafe(no_mangle)]
-pub extern "C" fn capture_entry(first: &[u8], file_len: u64, item: u32) -> Values
+pub fn capture_entry(first: &[u8], file_len: u64, item: u32) -> Values
     ensures { result ≡ entry_in first.now file_len item }
 {
     match benchfile::read_entry(first, file_len, item) {

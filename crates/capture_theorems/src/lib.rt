@@ -1,1 +1,2 @@
 // Theorems about the exported functions; there is no code here.
+#![tactic(auto)]

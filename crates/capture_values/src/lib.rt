@@ -1,5 +1,6 @@
 // Every field function by its number, its answer as a number and up to 21 signed values: for callers in other languages
 // (include/capture.h).
+#![tactic(auto)]
 mod mgl_values;
 mod nmea_values;
 mod onflight_values;
@@ -18,7 +19,7 @@ use onflight_sensors::ratio::RatioResult;
 
 // Document 01's number, and the values in their order, with zeros after them; beside a refusal all are zeros.
 #[repr(C)]
-#[derive(Drop)]
+#[derive(Clone, Copy)]
 pub struct Values {
     pub number: u32,
     pub values: [i64; 21],
@@ -26,7 +27,7 @@ pub struct Values {
 
 // The same for one float.
 #[repr(C)]
-#[derive(Drop)]
+#[derive(Clone, Copy)]
 pub struct Ratio {
     pub number: u32,
     pub value: f64,

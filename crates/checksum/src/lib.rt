@@ -1,4 +1,6 @@
 // Checksums of the three formats: CRC-32 (MGL), Fletcher-16 modulo 255 (OnFlight) and exclusive or (NMEA).
+#![tactic(auto)]
+
 ghost use Rattle.std.specs.Prelude.{◌≡◌, ◌+◌, ◌%◌};
 ghost use Rattle.checksum.specs.Xor.{xor_of};
 ghost use Rattle.checksum.specs.Fletcher.{fletcher_of};
@@ -6,7 +8,7 @@ ghost use Rattle.checksum.specs.Crc.{bit_steps, crc_of};
 ghost use Rattle.checksum.specs.Private.{crc_table};
 
 // The two sums of Fletcher's checksum, each below 255.
-#[derive(Drop)]
+#[derive(Clone, Copy)]
 pub struct Sums {
     pub plain: u8,
     pub weighted: u8,

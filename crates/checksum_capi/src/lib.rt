@@ -1,4 +1,6 @@
 // The checksums alone, for the benchmark (rust/benches/speed).
+#![tactic(auto)]
+
 ghost use Rattle.std.specs.Prelude.{◌≡◌, ◌+◌, ◌*◌};
 ghost use Rattle.checksum.specs.Crc.{crc_of};
 ghost use Rattle.checksum.specs.Fletcher.{fletcher_of};

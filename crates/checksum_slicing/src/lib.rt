@@ -1,4 +1,6 @@
 // CRC-32 by slicing: eight bytes at a time, by a table with eight numbers for each byte. `checksum::crc32` goes byte by byte.
+#![tactic(auto)]
+
 mod table;
 
 ghost use Rattle.std.specs.Prelude.{◌≡◌, cond, ◌+◌, ◌*◌, ◌%◌, ◌<◌, ◌≤◌, eqb, length};
@@ -10,7 +12,7 @@ use numbers::u32_of;
 use table::Row;
 
 // Eight bytes as two words, the first joined with the state before them; the next block starts at `next`.
-#[derive(Drop)]
+#[derive(Clone, Copy)]
 struct Block {
     far: u32,
     near: u32,

@@ -5,7 +5,7 @@ ghost use Rattle.std.specs.Prelude.{◌≡◌, ◌-◌};
 ghost use Rattle.checksum_slicing.specs.Private.{Key, row_of};
 
 // The numbers of a byte: 40, 48, 56, 64, 8, 16, 24 and 32 bit steps on it. Or sums of such.
-#[derive(Drop)]
+#[derive(Clone, Copy)]
 pub(crate) struct Row(
     pub(crate) u32,
     pub(crate) u32,

@@ -14,7 +14,7 @@ use Rattle.framing.specs.declared.Layout.{Layout}
 use Rattle.framing.specs.declared.Found.{Found}
 use Rattle.framing.specs.declared.Found.TheVariants.{Frame, Start, Neither}
 use Rattle.framing.specs.Rules.{part}
-use Rattle.framing.specs.Format.{Format, mgl, onflight, nmea, unknown, known, shortest, longest, good, body_start, body_end, layout_of}
+use Rattle.framing.specs.Format.{Format, onflight, shortest, longest, good, body_start, body_end, layout_of}
 use Rattle.framing.specs.Frame.{front, IsFrame}
 use Rattle.framing.proofs.FormatLaws.{lawful, good-known, body-fits}
 use Rattle.framing.proofs.FrameLaws.{frame-means}

@@ -1,4 +1,6 @@
 // What all field functions share: whether bytes are one whole frame, where its body is, and the types of their answers.
+#![tactic(auto)]
+
 ghost use Rattle.std.specs.Prelude.{◌≡◌};
 ghost use Rattle.framing.specs.Format.{format_of};
 ghost use Rattle.content.specs.Body.{is_frame, place_answer, place_of, body_of, between_of};
@@ -8,35 +10,35 @@ use calendar::Clock;
 use framing::frame_run;
 
 // Where the body of a frame is: from `start` up to `end`.
-#[derive(Drop)]
+#[derive(Clone, Copy)]
 pub enum Place {
     At { start: usize, end: usize },
     Refused(Refusal),
 }
 
 // A number of any format: a count, milliseconds, pascals.
-#[derive(Drop)]
+#[derive(Clone, Copy)]
 pub enum NumberResult {
     Read(u32),
     Refused(Refusal),
 }
 
 // Whether a field function was refused, where its value is an array that is returned beside it.
-#[derive(Drop)]
+#[derive(Clone, Copy)]
 pub enum Judged {
     Done,
     Refused(Refusal),
 }
 
 // A clock, of any format.
-#[derive(Drop)]
+#[derive(Clone, Copy)]
 pub enum ClockResult {
     Read(Clock),
     Refused(Refusal),
 }
 
 // A latitude and a longitude, in the format's own unit; south and west are below 0.
-#[derive(Drop)]
+#[derive(Clone, Copy)]
 pub enum PositionResult {
     Read { latitude: i32, longitude: i32 },
     Refused(Refusal),

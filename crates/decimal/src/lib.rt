@@ -1,4 +1,6 @@
 // Numbers written in decimal digits.
+#![tactic(auto)]
+
 ghost use Rattle.std.specs.Prelude.{◌≡◌};
 ghost use Rattle.buffer.specs.Buffer.{copied};
 ghost use Rattle.decimal.specs.Decimal.{last_digits, digit_count};

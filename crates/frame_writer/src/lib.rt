@@ -1,4 +1,5 @@
 // Writers of whole frames, each into a caller's output buffer.
+#![tactic(auto)]
 ghost use Rattle.std.specs.Prelude.{◌≡◌};
 ghost use Rattle.framing.specs.Format.{mgl, onflight, nmea};
 ghost use Rattle.frame_writer.specs.Output.{writing_answer, write};
@@ -8,7 +9,7 @@ use answer::Refusal;
 use mgl::Header;
 
 // How many bytes of the output the frame takes, or why nothing was written.
-#[derive(Drop)]
+#[derive(Clone, Copy)]
 pub enum Writing {
     Written(usize),
     Refused(Refusal),

@@ -1,6 +1,6 @@
 -- The body of a sentence, as code goes through it, and what a scan makes of the bytes passed.
 -- Assumes nothing.
-use Rattle.std.proofs.Common.{◌≡◌, ℕ, zero, suc, ◌+◌, ◌<◌, ◌≤◌, min, Bool, true, false, cond, ltb, List, length, get_or, take, drop, refl, ap, ◌∙◌, add-one, arith, length-take-le, get_or-take, ltb-false, ltb-true}
+use Rattle.std.proofs.Common.{◌≡◌, ℕ, zero, suc, ◌+◌, ◌<◌, ◌≤◌, Bool, true, false, cond, ltb, List, length, get_or, take, drop, refl, ap, ◌∙◌, add-one, arith, length-take-le, get_or-take, ltb-false, ltb-true}
 use Rattle.framing.specs.declared.Reason.TheVariants.{BodyTooLong}
 use Rattle.framing.specs.declared.Scanned.TheVariants.{Whole, Partial, Broken}
 use Rattle.framing.specs.Nmea.{permitted, nmea_next}

@@ -1,11 +1,8 @@
 -- The formats by their numbers, and the table of what their rules owe.
 -- Assumes nothing.
-use Rattle.std.proofs.Common.{◌≡◌, ℕ, zero, suc, ◌+◌, ◌<◌, ◌≤◌, cond, T, eqb, List, [], ◌∷◌, length, sym, refl, subst, inr, ⊎_elim, arith, ne_eqb}
-use Rattle.framing.specs.declared.Reason.TheVariants.{StartByte}
-use Rattle.framing.specs.declared.Scanned.TheVariants.{Partial, Broken}
+use Rattle.std.proofs.Common.{◌≡◌, ℕ, zero, suc, ◌+◌, ◌≤◌, T, List, sym, refl, subst, inr, ⊎_elim, arith}
 use Rattle.framing.specs.Rules.{Rules, no_rules}
 use Rattle.framing.specs.Format.{Format, mgl, onflight, nmea, unknown, format_of, known, shortest, longest, pending_bound, body_start, body_end, next, good, rules_of}
-use Rattle.framing.specs.Shape.{scan_from, scan}
 use Rattle.framing.proofs.Lawful.{Lawful}
 use Rattle.framing.proofs.MglLaws.{mgl-lawful}
 use Rattle.framing.proofs.OnflightLaws.{onflight-lawful}

@@ -1,6 +1,6 @@
 -- Laws of `front` over every format: a frame lies inside the bytes, and what is no start stays when bytes follow.
 -- Assumes nothing.
-use Rattle.std.proofs.Common.{◌≡◌, ℕ, suc, ◌<◌, ◌≤◌, Bool, true, false, cond, T, eqb, ◌↔◌, List, [], ◌∷◌, ◌++◌, length, take, sym, refl, ap, ◌∙◌, subst, arith, length-take-le, ne_eqb}
+use Rattle.std.proofs.Common.{◌≡◌, ℕ, suc, ◌<◌, ◌≤◌, Bool, true, false, cond, T, eqb, List, [], ◌∷◌, ◌++◌, length, take, sym, refl, ap, ◌∙◌, subst, arith, length-take-le, ne_eqb}
 use lib.Seq.{take-append-le, take-length}
 use Rattle.framing.specs.declared.Reason.TheVariants.{StartByte, Checksum}
 use Rattle.framing.specs.declared.Scanned.{Scanned}
@@ -9,7 +9,7 @@ use Rattle.framing.specs.declared.Found.{Found}
 use Rattle.framing.specs.declared.Found.TheVariants.{Frame, Start, Neither}
 use Rattle.framing.specs.Format.{Format, unknown, next, good}
 use Rattle.framing.specs.Shape.{scan_from, scan}
-use Rattle.framing.specs.Meaning.{IsShape, FrameMeans}
+use Rattle.framing.specs.Meaning.{FrameMeans}
 use Rattle.framing.specs.Frame.{front_of, front, IsFrame}
 use Rattle.framing.proofs.TestLaws.{true_of}
 use Rattle.framing.proofs.ShapeLaws.{Settled, stays, WholeIn, inside, whole-alone}

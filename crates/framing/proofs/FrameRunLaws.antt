@@ -1,6 +1,6 @@
 -- Frames one behind the other, as code goes through them.
 -- Assumes nothing.
-use Rattle.std.proofs.Common.{◌≡◌, ℕ, zero, suc, ◌+◌, ◌-◌, ◌<◌, ◌≤◌, min, Bool, true, false, List, [], ◌∷◌, length, take, drop, sym, refl, ap, ◌∙◌, subst, add-zero, zero-add, arith, length-drop, take_all, drop-drop}
+use Rattle.std.proofs.Common.{◌≡◌, ℕ, zero, suc, ◌+◌, ◌-◌, ◌<◌, ◌≤◌, min, true, false, List, [], ◌∷◌, length, take, drop, sym, refl, ap, ◌∙◌, subst, add-zero, zero-add, arith, length-drop, take_all, drop-drop}
 use native.Mathlib.Nat.{sub-zero, zero-sub}
 use lib.Seq.{take-nil}
 use Rattle.framing.specs.declared.Reason.{Reason}

@@ -8,7 +8,6 @@ use Rattle.framing.specs.Mgl.{length_from_byte, mgl_next}
 use Rattle.framing.specs.Onflight.{onflight_next}
 use Rattle.framing.specs.Nmea.{permitted}
 use Rattle.framing.specs.Shape.{scan}
-use Rattle.framing.specs.declared.Growth.{Growth}
 use Rattle.framing.specs.declared.Growth.TheVariants.{Grows, Waits, Unsaid}
 use Rattle.framing.specs.Growth.{Grown}
 use Rattle.framing.specs.Private.{Permitted, Reached, Needs, GrownBy, told_by}

@@ -7,7 +7,6 @@ use Rattle.framing.specs.Rules.{more, done, must}
 use Rattle.framing.specs.Nmea.{permitted, hex_digit, body_next, nmea_next}
 use Rattle.framing.specs.Format.{nmea, known, first, shortest, longest, pending_bound, body_start, body_end, next}
 use Rattle.framing.specs.Shape.{scan_from}
-use Rattle.framing.specs.Meaning.{IsByte}
 use Rattle.framing.specs.Private.{ending_byte}
 use Rattle.framing.proofs.ShapeLaws.{scan-bad, scan-more, scan-done}
 use Rattle.framing.proofs.Lawful.{After, must-after, cond-after, Completes, one_more, the_last, Lawful}

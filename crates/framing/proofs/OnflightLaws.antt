@@ -1,6 +1,6 @@
 -- OnFlight: what its rules owe.
 -- Assumes nothing.
-use Rattle.std.proofs.Common.{◌≡◌, ℕ, zero, suc, ◌+◌, ◌<◌, ◌≤◌, eqb, refl, inl, arith}
+use Rattle.std.proofs.Common.{ℕ, zero, suc, ◌≤◌, eqb, refl, inl, arith}
 use Rattle.framing.specs.Onflight.{onflight_next}
 use Rattle.framing.specs.Format.{onflight, known, first, shortest, longest, pending_bound, body_start, body_end, next}
 use Rattle.framing.proofs.ShapeLaws.{CountsFrom, from-four}

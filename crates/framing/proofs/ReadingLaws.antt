@@ -10,7 +10,7 @@ use Rattle.framing.specs.declared.Found.TheVariants.{Frame, Start, Neither}
 use Rattle.framing.specs.Format.{Format, pending_bound}
 use Rattle.framing.specs.Shape.{scan_from, scan}
 use Rattle.framing.specs.Frame.{front, IsFrame}
-use Rattle.framing.specs.Reading.{Mode, ongoing, closing, Event, framed, skipped, Reading, stop, ◌then◌, step, read_steps, read, extend, frames, joined, total, one_frame, framed_bytes, framed_count, skipped_count, pending_count}
+use Rattle.framing.specs.Reading.{Mode, ongoing, closing, Event, framed, skipped, Reading, ◌then◌, step, read_steps, read, extend, frames, joined, total, one_frame, framed_bytes, framed_count, skipped_count, pending_count}
 use Rattle.framing.specs.Meaning.{ReadCons, ClosingRest, ReadNil}
 use Rattle.framing.proofs.FrameLaws.{FrameIn, front-inside, Decided, front-stays, frame-alone, start_partial}
 use Rattle.framing.proofs.Length.{start-bound}

@@ -1,7 +1,7 @@
 -- What a proper start is: the bytes that `scan` finds partial are exactly those that some bytes which follow make a whole shape. And what
 -- `front` finds.
 -- Assumes nothing.
-use Rattle.std.proofs.Common.{◌≡◌, ℕ, zero, suc, ◌+◌, ◌<◌, ◌≤◌, T, List, [], ◌∷◌, ◌++◌, length, take, drop, sym, refl, ap, ◌∙◌, subst, arith, take-append-drop, length-take-le}
+use Rattle.std.proofs.Common.{◌≡◌, ℕ, suc, ◌≤◌, T, List, [], ◌∷◌, length, take, drop, sym, refl, ap, ◌∙◌, subst, arith, take-append-drop, length-take-le}
 use Rattle.framing.specs.declared.Scanned.TheVariants.{Whole, Partial}
 use Rattle.framing.specs.declared.Found.TheVariants.{Frame}
 use Rattle.framing.specs.Rules.{Next, more, done, bad}

@@ -9,7 +9,7 @@ use super::{Found, shape};
 
 // Such frames: their bytes, how many they are, and whether what follows is nothing or a proper start. It is false where the limit ended
 // the run: what follows was not looked at.
-#[derive(Drop)]
+#[derive(Clone, Copy)]
 pub struct Run {
     pub bytes: usize,
     pub frames: usize,

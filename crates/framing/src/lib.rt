@@ -1,4 +1,6 @@
 // What a byte string begins with: a frame, a proper start of one, or neither.
+#![tactic(auto)]
+
 mod find;
 pub mod frame_run;
 pub mod mgl;
@@ -16,7 +18,7 @@ ghost use Rattle.framing.specs.FindStart.{find_start};
 ghost use Rattle.framing.specs.Growth.{Grown};
 
 // Why the bytes from a position on are no frame, by the earliest byte at which they stop being the start of a shape.
-#[derive(Drop)]
+#[derive(Clone, Copy)]
 pub enum Reason {
     StartByte,
     SecondByte,
@@ -29,7 +31,7 @@ pub enum Reason {
 }
 
 // What the bytes from a position on are to the shapes of a format; no checksum is looked at.
-#[derive(Drop)]
+#[derive(Clone, Copy)]
 pub enum Scanned {
     // They begin with a whole shape of so many bytes.
     Whole(usize),
@@ -40,7 +42,7 @@ pub enum Scanned {
 }
 
 // What the bytes from a position on begin with.
-#[derive(Drop)]
+#[derive(Clone, Copy)]
 pub enum Found {
     // A frame of so many bytes.
     Frame(usize),
@@ -51,7 +53,7 @@ pub enum Found {
 }
 
 // The numbers of a format.
-#[derive(Drop)]
+#[derive(Clone, Copy)]
 pub struct Layout {
     // Whether it is a format at all; if not, the other numbers are 0.
     pub known: bool,
@@ -66,7 +68,7 @@ pub struct Layout {
 }
 
 // What more bytes make of a proper start.
-#[derive(Drop)]
+#[derive(Clone, Copy)]
 pub enum Growth {
     // A proper start again.
     Grows,

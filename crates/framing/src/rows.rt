@@ -6,7 +6,7 @@ ghost use Rattle.framing.specs.Private.{Passes};
 use super::xor_padded;
 
 // What a pass finds: 0 refused bytes only if there is none.
-#[derive(Drop)]
+#[derive(Clone, Copy)]
 pub struct Passed {
     pub refused: u8,
     pub xor: u8,

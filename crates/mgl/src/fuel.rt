@@ -6,7 +6,7 @@ ghost use Rattle.mgl.specs.Fuel.{is_fuel, tank_count_of, tank_answer, tank_at, t
 use answer::Refusal;
 use content::NumberResult;
 
-#[derive(Drop)]
+#[derive(Clone, Copy)]
 pub struct Tank {
     pub level: i32,
     pub kind: u8,
@@ -14,7 +14,7 @@ pub struct Tank {
     pub sensors: u16,
 }
 
-#[derive(Drop)]
+#[derive(Clone, Copy)]
 pub enum TankResult {
     Read(Tank),
     Refused(Refusal),

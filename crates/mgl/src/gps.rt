@@ -5,7 +5,7 @@ ghost use Rattle.mgl.specs.Gps.{has_altitude, gps_answer, gps_at, gps_of};
 use answer::Refusal;
 
 // Every field raw, and what the mode says of them.
-#[derive(Drop)]
+#[derive(Clone, Copy)]
 pub struct Gps {
     pub latitude: i32,
     pub longitude: i32,
@@ -32,7 +32,7 @@ pub struct Gps {
     pub altitude_valid: bool,
 }
 
-#[derive(Drop)]
+#[derive(Clone, Copy)]
 pub enum GpsResult {
     Read(Gps),
     Refused(Refusal),

@@ -1,4 +1,6 @@
 // Fields of the MGL feed's frames. A body begins at byte 8 of its frame.
+#![tactic(auto)]
+
 pub mod clock;
 pub mod fuel;
 pub mod gps;
@@ -9,7 +11,7 @@ ghost use Rattle.mgl.specs.Header.{header_answer, header_of, is_message};
 use answer::Refusal;
 
 // What stands before the body of every frame: the message type, its rate a second, its count within the second, and its version.
-#[derive(Drop)]
+#[derive(Clone, Copy)]
 pub struct Header {
     pub message_type: u8,
     pub rate: u8,
@@ -17,7 +19,7 @@ pub struct Header {
     pub version: u8,
 }
 
-#[derive(Drop)]
+#[derive(Clone, Copy)]
 pub enum HeaderResult {
     Read(Header),
     Refused(Refusal),

@@ -1,11 +1,13 @@
 // Gyro numbers of the MGL feed, in hundredths of a degree a second, and back.
+#![tactic(auto)]
+
 ghost use Rattle.std.specs.Prelude.{◌≡◌, ◌≤◌};
 ghost use Rattle.mgl_gyro.specs.Gyro.{scale, hundredths_of, unscale, number_of, gyro_answer};
 
 use answer::Refusal;
 
 // What is written for a rate: the gyro number that stands for it, or refusal 9.
-#[derive(Drop)]
+#[derive(Clone, Copy)]
 pub enum GyroWriting {
     Number(i16),
     Refused(Refusal),

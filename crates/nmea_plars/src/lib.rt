@@ -1,4 +1,5 @@
 // PLARS settings, in one spelling only.
+#![tactic(auto)]
 ghost use Rattle.std.specs.Prelude.{◌≡◌, ◌≤◌, ◌^◌};
 ghost use Rattle.nmea_sentence.specs.Digits.{digits_of};
 ghost use Rattle.nmea_plars.specs.Plars.{rule_of, form_of, parameter_of, is_whole_part, steps, value_of, is_source, setting_answer, ranged, fields_setting, setting_of};
@@ -8,14 +9,14 @@ use content::Judged;
 use nmea_sentence::Digits;
 
 // A setting: who sent it (L or H), the parameter (0 to 3 for MC, BAL, BUGS, QNH), and its value in steps of the last decimal.
-#[derive(Drop)]
+#[derive(Clone, Copy)]
 pub struct Setting {
     pub source: u8,
     pub parameter: u8,
     pub value: u32,
 }
 
-#[derive(Drop)]
+#[derive(Clone, Copy)]
 pub enum SettingResult {
     Read(Setting),
     Refused(Refusal),
@@ -41,7 +42,7 @@ fn parameter_of(s: &[u8]) -> u8
 }
 
 // How a value is written: its decimals, how many steps of the last one make 1, and its least and its largest value in steps.
-#[derive(Drop)]
+#[derive(Clone, Copy)]
 pub struct Form {
     pub decimals: usize,
     pub unit: u64,

@@ -1,4 +1,5 @@
 // PLARS settings written, in one spelling only.
+#![tactic(auto)]
 ghost use Rattle.std.specs.Prelude.{◌≡◌, true, ◌+◌, ◌<◌, ◌≤◌, ◌^◌, length, take};
 ghost use Rattle.buffer.specs.Buffer.{copied};
 ghost use Rattle.nmea_plars.specs.Plars.{rule_of};

@@ -36,7 +36,7 @@ fn angle_of(s: &[u8], most: usize) -> Digits
     Digits::Of(degrees * 6_000_000 + minutes * 100_000 + parts)
 }
 
-#[derive(Drop)]
+#[derive(Clone, Copy)]
 pub enum Hemisphere {
     Plus,
     Minus,
@@ -60,7 +60,7 @@ fn hemisphere_of(s: &[u8], plus: u8, minus: u8) -> Hemisphere
 }
 
 // Below 0 in the south and the west.
-#[derive(Drop)]
+#[derive(Clone, Copy)]
 pub enum Angle {
     Good(i32),
     Bad,

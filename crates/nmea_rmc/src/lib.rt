@@ -1,3 +1,4 @@
 // Fields of NMEA sentences: RMC.
+#![tactic(auto)]
 mod angle;
 pub mod rmc;

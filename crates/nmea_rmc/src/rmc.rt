@@ -13,13 +13,13 @@ use content::{ClockResult, Judged, PositionResult};
 use nmea_sentence::Digits;
 
 // What the receiver says of its data: A is valid, V is a navigation receiver warning.
-#[derive(Drop)]
+#[derive(Clone, Copy)]
 pub enum Status {
     Valid,
     Warning,
 }
 
-#[derive(Drop)]
+#[derive(Clone, Copy)]
 pub enum StatusResult {
     Read(Status),
     Refused(Refusal),

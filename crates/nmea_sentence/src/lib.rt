@@ -1,4 +1,5 @@
 // The fields of a sentence's body, the numbers that they write, and what every field function of a sentence judges first.
+#![tactic(auto)]
 ghost use Rattle.std.specs.Prelude.{◌≡◌, ◌+◌, ◌≤◌, length, drop};
 ghost use Rattle.nmea_sentence.specs.Fields.{fields, field_at, from_field};
 ghost use Rattle.nmea_sentence.specs.Private.{field_of, span_bytes, Within, fields_in};
@@ -10,7 +11,7 @@ use answer::Refusal;
 use content::Judged;
 
 // Where a field is in a body.
-#[derive(Drop)]
+#[derive(Clone, Copy)]
 pub enum FieldSpan {
     At { start: usize, end: usize },
     Missing,
@@ -112,7 +113,7 @@ pub fn field_count(s: &[u8]) -> usize
 }
 
 // The number that up to nine decimal digits write.
-#[derive(Drop)]
+#[derive(Clone, Copy)]
 pub enum Digits {
     Of(u64),
     None,

@@ -1,5 +1,7 @@
 // Numbers of a slice at an offset, low byte first, and back; signed numbers from their bits; and the lesser of two. Every function is
 // total: a byte past the end counts 0.
+#![tactic(auto)]
+
 ghost use Rattle.std.specs.Prelude.{◌≡◌, ◌+◌, ◌*◌, ◌%◌, min, slice_index, unsigned_abs};
 ghost use Rattle.std.specs.Int.{w16, w32};
 ghost use Rattle.numbers.specs.Low.{low, low_bytes, signed, minus};

@@ -8,7 +8,7 @@ use answer::Refusal;
 use content::{Judged, NumberResult};
 
 // The bytes stand beside the answer (docs/DECISIONS.md, "What a field function answers"): zeros where it is a refusal.
-#[derive(Drop)]
+#[derive(Clone, Copy)]
 pub struct StatusResult {
     pub answer: Judged,
     pub bytes: [u8; 6],

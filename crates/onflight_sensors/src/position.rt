@@ -9,7 +9,7 @@ use answer::Refusal;
 use content::PositionResult;
 
 // Feet above the WGS84 ellipsoid.
-#[derive(Drop)]
+#[derive(Clone, Copy)]
 pub enum AltitudeResult {
     Read(i32),
     Refused(Refusal),

@@ -4,7 +4,7 @@ ghost use Rattle.onflight_sensors.specs.Ratio.{ratio_answer, voltage_of, load_of
 
 use answer::Refusal;
 
-#[derive(Drop)]
+#[derive(Clone, Copy)]
 pub enum RatioResult {
     Read(f64),
     Refused(Refusal),

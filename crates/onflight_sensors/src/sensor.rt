@@ -7,14 +7,14 @@ use answer::Refusal;
 use content::NumberResult;
 
 // Two values: the voltages, or the fix and the satellites.
-#[derive(Drop)]
+#[derive(Clone, Copy)]
 pub enum PairResult {
     Read { first: u8, second: u8 },
     Refused(Refusal),
 }
 
 // Raw: 1000 a g for accelerations, 10 a degree a second for gyros.
-#[derive(Drop)]
+#[derive(Clone, Copy)]
 pub enum AxesResult {
     Read { x: i16, y: i16, z: i16 },
     Refused(Refusal),

@@ -1,19 +1,19 @@
 -- The closing reading from its first step and that of the rest, its frames put into the output. Assumes nothing.
 use Prim.Native.Nat.{ℕ, ◌+◌, ◌-◌, ◌≤◌, ◌<◌}
 use mathlib.Core.Path.{◌≡◌, refl, sym, ap, ◌∙◌}
-use mathlib.Core.List.{List, [], ◌∷◌, ◌++◌, append-nil}
+use mathlib.Core.List.{List, [], ◌∷◌, ◌++◌}
 use native.Mathlib.Omega.{arith}
-use lib.ListN.{length, take, drop, length-drop, drop_of_length-le}
-use lib.Seq.{length-take-le, take_at, drop_at}
+use lib.ListN.{length, take, drop}
+use lib.Seq.{length-take-le}
 use Rattle.buffer.specs.Buffer.{put, copied}
-use Rattle.buffer.proofs.BufferLaws.{start-copied, put-behind}
+use Rattle.buffer.proofs.BufferLaws.{start-copied}
 use Rattle.framing.specs.declared.Reason.{Reason}
 use Rattle.framing.specs.declared.Reason.TheVariants.{RanOut}
 use Rattle.framing.specs.declared.Found.{Found}
 use Rattle.framing.specs.declared.Found.TheVariants.{Frame, Start, Neither}
 use Rattle.framing.specs.Format.{Format}
 use Rattle.framing.specs.Frame.{front}
-use Rattle.framing.specs.Reading.{closing, framed, skipped, read, joined}
+use Rattle.framing.specs.Reading.{closing, skipped, read, joined}
 use Rattle.framing.proofs.ReadingLaws.{read-nil, closing-rest, balance}
 use Rattle.reader.specs.declared.lines.LineCounts.{LineCounts}
 use Rattle.framing.specs.FrameRun.{frame_length}

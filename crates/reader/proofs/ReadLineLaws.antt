@@ -25,7 +25,7 @@ use Rattle.framing.proofs.FrameRunLaws.{one_of, run-one}
 use Rattle.reader.specs.declared.lines.LineCounts.{LineCounts}
 use Rattle.reader.specs.Private.{line_counts_of}
 use Rattle.reader.proofs.RefusalLaws.{start_of}
-use Rattle.reader.proofs.StepLaws.{Step, frame-inside, frame_step, skip_step, start-stops}
+use Rattle.reader.proofs.StepLaws.{Step, frame_step, skip_step, start-stops}
 
 -- ---- the events that a reading begins with
 

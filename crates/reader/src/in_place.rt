@@ -13,7 +13,7 @@ use super::{Reader, held, lines, refusal};
 use answer::Refusal;
 
 // All of a reader but its held bytes.
-#[derive(Drop)]
+#[derive(Clone, Copy)]
 pub struct Words {
     pub format: u32,
     pub closed: bool,
@@ -23,7 +23,7 @@ pub struct Words {
 }
 
 // What a call answers: 0 or the number of the refusal, how many frames it handed out, and the words after it.
-#[derive(Drop)]
+#[derive(Clone, Copy)]
 pub struct Advance {
     pub answer: u32,
     pub frames: u32,

@@ -1,4 +1,6 @@
 // A reader of a line that comes in pieces.
+#![tactic(auto)]
+
 mod held;
 pub mod in_place;
 mod lines;
@@ -14,7 +16,7 @@ use in_place::{Advance, Words};
 
 // A reader goes into a call by value and comes back by value. Its counts are framed, skipped and pending; the first
 // pending bytes of held are those that wait for more.
-#[derive(Drop)]
+#[derive(Clone, Copy)]
 pub struct Reader {
     pub format: u32,
     pub closed: bool,
@@ -25,14 +27,14 @@ pub struct Reader {
 }
 
 // A request for a fresh reader: 0 or refusal 11, and the reader.
-#[derive(Drop)]
+#[derive(Clone, Copy)]
 pub struct Opening {
     pub answer: u32,
     pub reader: Reader,
 }
 
 // What a call answers: 0 or the number of the refusal, how many frames it handed out, and the reader after it.
-#[derive(Drop)]
+#[derive(Clone, Copy)]
 pub struct Outcome {
     pub answer: u32,
     pub frames: u32,

@@ -11,7 +11,7 @@ ghost use Rattle.reader.specs.Private.{Joined, line_counts_of};
 use framing::frame_run;
 
 // The counts of a reading: the bytes framed, those skipped, and the frames.
-#[derive(Drop)]
+#[derive(Clone, Copy)]
 pub(crate) struct LineCounts {
     pub(crate) framed: usize,
     pub(crate) skipped: usize,

@@ -29,7 +29,7 @@ pub(crate) fn waits(format: u32, held: &[u8], pending: usize) -> bool
 }
 
 // What is known of the pending bytes: whether they are nothing or a proper start, and whether they surely are one together with a piece.
-#[derive(Drop)]
+#[derive(Clone, Copy)]
 pub(crate) struct Start {
     pub(crate) waits: bool,
     pub(crate) grows: bool,

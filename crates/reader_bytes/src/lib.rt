@@ -1,4 +1,6 @@
 // A reader as bytes that a caller lends: for callers in other languages, which store it.
+#![tactic(auto)]
+
 ghost use Rattle.std.specs.Prelude.{◌≡◌, [], ◌++◌, ◌+◌, ◌≤◌, length, take, drop};
 ghost use Rattle.numbers.specs.Low.{low};
 ghost use Rattle.reader.specs.State.{held_length};

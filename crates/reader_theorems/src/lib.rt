@@ -1,1 +1,2 @@
 // Theorems about whole lists of calls; there is no code here.
+#![tactic(auto)]

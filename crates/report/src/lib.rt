@@ -1,4 +1,5 @@
 // A bench file read by read, in constant memory, and what is printed of it.
+#![tactic(auto)]
 ghost use Rattle.std.specs.Prelude.{◌≡◌, cond, ◌+◌, ◌<◌, ◌≤◌, leb, ltb, length, take};
 ghost use mathlib.Core.List.{flat_map};
 ghost use Rattle.buffer.specs.Buffer.{copied};
@@ -27,7 +28,7 @@ pub fn is_too_long(length: u64) -> bool
     LONGEST_FILE < length
 }
 
-#[derive(Drop)]
+#[derive(Clone, Copy)]
 pub struct Report {
     // The length that the table of contents gives to the file; 0 as long as the table is not whole.
     pub length: u64,

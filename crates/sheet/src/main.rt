@@ -1,68 +1,105 @@
 // sheet FILE: reads a bench file once, to its end or until `is_refused` says so, and then prints a sheet for each entry,
 // in order; or `refused 10`, where the file is broken in any way. This file only reads, steps and writes: what is printed is `sheets_of` of the
 // bytes read (crates/report/specs/Printed.antt).
+#![tactic(auto)]
+
 mod progress;
 
-use libc::{STDERR_FILENO, STDOUT_FILENO};
 use progress::Progress;
 use report::Report;
+use std::env::Args;
+use std::fs::{File, Files};
+use std::io::{IsTerminal, Read, Write};
+use std::{env, io};
 
 // So many bytes are read at once.
 const READ: usize = 65536;
 
-// Prints what the file comes to; one line on standard error where it can't be written.
-fn print(report: Report) {
-    let mut text = [0u8; report::LONGEST_TEXT];
-    let n = report.write(&mut text);
-    if !io::write_all(STDOUT_FILENO, &text[..n]) {
-        os::fail(b"sheet: standard output");
-    }
+// Says in one line on standard error what failed, and why. Where that can't be written either, nothing is said.
+fn fail(stderr: &mut impl Write, what: &str, error: &io::Error) {
+    let _ = writeln!(stderr, "{what}: {error}");
 }
 
-// Reads the file to its end, or until its report is refused already, and prints what it comes to. Nothing is printed
-// before. The count of bytes proves that the loop ends; a file with more bytes is refused by then (`long-refused` of
-// report).
-fn read_file(fd: i32, path: &[u8]) {
+// Prints what the file comes to.
+fn print(report: Report, stdout: &mut impl Write) -> io::Result<()> {
+    let mut text = [0u8; report::LONGEST_TEXT];
+    let n = report.write(&mut text);
+    stdout.write_all(&text[..n])
+}
+
+// Reads the file to its end, or until its report is refused already. The count of bytes proves that the loop ends; a
+// file with more bytes is refused by then (`long-refused` of report).
+fn read_file(file: &mut impl Read, stderr: &mut (impl Write + IsTerminal)) -> io::Result<Report> {
     let mut buf = [0u8; READ];
     let mut report = Report::fresh();
-    let mut progress = Progress::new();
+    let mut progress = Progress::new(stderr);
     while !report::is_too_long(progress.done) {
         if report.is_refused() {
             break;
         }
-        let got = libc::read(fd, &mut buf);
-        if got < 0 {
-            progress.over();
-            os::fail(path);
-            return;
-        }
-        let n = io::count(got, &buf);
+        let n = match file.read(&mut buf) {
+            Ok(n) => n,
+            Err(e) => {
+                progress.over(stderr);
+                return Err(e);
+            }
+        };
         if n == 0 {
             break;
         }
         report = report.take(&buf[..n]);
-        progress = progress.advanced(n, report.length);
+        progress = progress.advanced(stderr, n, report.length);
     }
-    progress.over();
-    print(report);
+    progress.over(stderr);
+    Ok(report)
 }
 
-fn main() {
-    if os::arg_count() != 2 {
-        io::write_all(STDERR_FILENO, b"usage: sheet FILE\n");
-        return;
+// The report of a file by its name.
+fn report_of(
+    files: &impl Files,
+    path: &str,
+    stderr: &mut (impl Write + IsTerminal),
+) -> io::Result<Report> {
+    let mut file = File::open(files, path)?;
+    read_file(&mut file, stderr)
+}
+
+// Prints the sheets of a file. Nothing is printed before the file is read.
+fn sheets(
+    files: &impl Files,
+    path: &str,
+    stdout: &mut impl Write,
+    stderr: &mut (impl Write + IsTerminal),
+) {
+    match report_of(files, path, stderr) {
+        Ok(report) => {
+            if let Err(e) = print(report, stdout) {
+                fail(stderr, "sheet: standard output", &e);
+            }
+        }
+        Err(e) => fail(stderr, path, &e),
     }
-    let mut path = io::buffer();
-    let length = os::arg(1, &mut path);
-    if os::errno() != 0 {
-        os::fail(b"sheet: the file's name");
-        return;
+}
+
+// The one argument; none, where there are fewer or more.
+fn only_argument(mut args: Args) -> Option<String> {
+    args.next()?;
+    let path = args.next()?;
+    match args.next() {
+        Some(_) => None,
+        None => Some(path),
     }
-    let fd = os::open_read(&path[..length]);
-    if fd < 0 {
-        os::fail(&path[..length]);
-        return;
+}
+
+fn main(rt: HostRuntime) {
+    let mut stderr = rt.stderr();
+    match env::args(&rt) {
+        Ok(args) => match only_argument(args) {
+            Some(path) => sheets(&rt, path.as_str(), &mut rt.stdout(), &mut stderr),
+            None => {
+                let _ = writeln!(stderr, "usage: sheet FILE");
+            }
+        },
+        Err(e) => fail(&mut stderr, "sheet: the file's name", &e),
     }
-    read_file(fd, &path[..length]);
-    libc::close(fd);
 }

@@ -1,7 +1,7 @@
 // How far a long file is read: said on standard error, where that is a terminal.
 ghost use Rattle.std.specs.Prelude.{◌≡◌, ◌+◌, ◌<◌};
 
-use libc::STDERR_FILENO;
+use std::io::{IsTerminal, Write};
 
 // Files up to this length are read without a word.
 const LONG: u64 = 64 * 1024 * 1024;
@@ -11,7 +11,7 @@ const STRIDE: u64 = 16 * 1024 * 1024;
 
 const MEGABYTE: u64 = 1024 * 1024;
 
-#[derive(Drop)]
+#[derive(Clone, Copy)]
 pub(crate) struct Progress {
     pub(crate) done: u64,
     pub(crate) terminal: bool,
@@ -19,27 +19,25 @@ pub(crate) struct Progress {
 
 impl Progress {
     // Nothing is read yet.
-    pub(crate) fn new() -> Progress
+    pub(crate) fn new(stderr: &impl IsTerminal) -> Progress
         ensures { result.done ≡ 0 }
     {
         Progress {
             done: 0,
-            terminal: libc::isatty(STDERR_FILENO) == 1,
+            terminal: stderr.is_terminal(),
         }
     }
 
     // So many bytes more are read of a file of so many in all.
-    pub(crate) fn advanced(self, n: usize, total: u64) -> Progress
+    pub(crate) fn advanced(self, stderr: &mut impl Write, n: usize, total: u64) -> Progress
         requires { self.done + n < 18446744073709551616 }
         ensures { result.done ≡ self.done + n }
     {
         let done = self.done + n as u64;
         if self.terminal && LONG < total && self.done / STRIDE != done / STRIDE {
-            io::write_all(STDERR_FILENO, b"\rread ");
-            io::print_decimal(STDERR_FILENO, done / MEGABYTE);
-            io::write_all(STDERR_FILENO, b" of ");
-            io::print_decimal(STDERR_FILENO, total / MEGABYTE);
-            io::write_all(STDERR_FILENO, b" MB");
+            let megabytes = done / MEGABYTE;
+            let of = total / MEGABYTE;
+            let _ = write!(stderr, "\rread {megabytes} of {of} MB");
         }
         Progress {
             done: done,
@@ -48,9 +46,9 @@ impl Progress {
     }
 
     // The line is cleared.
-    pub(crate) fn over(self) {
+    pub(crate) fn over(self, stderr: &mut impl Write) {
         if self.terminal && LONG < self.done {
-            io::write_all(STDERR_FILENO, b"\r                                    \r");
+            let _ = stderr.write_all(b"\r                                    \r");
         }
     }
 }

@@ -1,4 +1,5 @@
 // A capture read call by call to its end, for its sheet: the reader, and the frames that it handed out.
+#![tactic(auto)]
 ghost use Rattle.std.specs.Prelude.{◌≡◌};
 ghost use Rattle.reader.specs.Calls.{a_piece, a_close};
 ghost use Rattle.tally.specs.Step.{fresh_tally, stepped, after_outcome, tally_step, sheet_of};
@@ -7,7 +8,7 @@ use benchfile::sheet::Sheet;
 use reader::{Outcome, Reader};
 
 // The first refusal or 0, the frames so far, and the reader.
-#[derive(Drop)]
+#[derive(Clone, Copy)]
 pub struct Tally {
     pub answer: u32,
     pub frames: u32,

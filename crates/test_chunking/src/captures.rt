@@ -6,13 +6,11 @@ pub(crate) type Line = [u8; 4600];
 // Puts bytes into line from at on, as far as they fit, and answers where they end.
 fn put(line: &mut Line, at: usize, bytes: &[u8]) -> usize {
     let mut e = at;
-    let mut i = 0;
-    while i < bytes.len() {
+    for byte in bytes {
         if e < line.len() {
-            line[e] = bytes[i];
+            line[e] = *byte;
             e += 1;
         }
-        i += 1;
     }
     e
 }
@@ -20,15 +18,13 @@ fn put(line: &mut Line, at: usize, bytes: &[u8]) -> usize {
 // Puts n bytes that count up from first.
 fn count(line: &mut Line, at: usize, n: usize, first: u8) -> usize {
     let mut e = at;
-    let mut i = 0;
     let mut byte = first;
-    while i < n {
+    for _ in 0..n {
         if e < line.len() {
             line[e] = byte;
             e += 1;
         }
-        byte = std::num::wrapping_add_u8(byte, 1);
-        i += 1;
+        byte = byte.wrapping_add(1);
     }
     e
 }

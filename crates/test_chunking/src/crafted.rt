@@ -2,6 +2,8 @@
 use super::run;
 use super::run::Run;
 use reader::Reader;
+use std::io;
+use std::io::Write;
 
 // The most bytes that a reader counts.
 const MOST: u32 = Reader::MOST_BYTES as u32;
@@ -26,24 +28,24 @@ fn with(run: Run, r: Reader) -> Run {
 }
 
 // Calls on a reader that is full: it takes an empty piece and no longer one.
-fn full(run: Run, format: u32) -> Run {
+fn full(to: &mut impl Write, run: Run, format: u32) -> io::Result<Run> {
     let mut r = waiting(format, 0);
     r.framed = MOST;
     r.pending = 0;
-    let run = run::piece(with(run, r), b"$", 1, 3);
-    let run = run::piece(run, b"$", 0, 3);
-    run::piece(run, b"", 0, 0)
+    let run = run::piece(to, with(run, r), b"$", 1, 3)?;
+    let run = run::piece(to, run, b"$", 0, 3)?;
+    run::piece(to, run, b"", 0, 0)
 }
 
 // Calls on a reader that is broken.
-fn broken(run: Run, r: Reader) -> Run {
-    let run = run::piece(with(run, r), b"$", run::MAX_OUTPUT, 11);
-    let run = run::too_long(run, 0, 11);
-    run::close(run, run::MAX_OUTPUT, 11)
+fn broken(to: &mut impl Write, run: Run, r: Reader) -> io::Result<Run> {
+    let run = run::piece(to, with(run, r), b"$", run::MAX_OUTPUT, 11)?;
+    let run = run::too_long(to, run, 0, 11)?;
+    run::close(to, run, run::MAX_OUTPUT, 11)
 }
 
 // Four broken readers, each one change from a reader that takes a piece; then the full one.
-pub(crate) fn refused(run: Run, format: u32) -> Run {
+pub(crate) fn refused(to: &mut impl Write, run: Run, format: u32) -> io::Result<Run> {
     let l = framing::layout_of(format);
     let whole = waiting(format, l.first);
     let mut long = whole;
@@ -52,10 +54,10 @@ pub(crate) fn refused(run: Run, format: u32) -> Run {
     closed.closed = true;
     let mut over = whole;
     over.framed = MOST;
-    let run = run::piece(with(run, whole), b"", 1, 0);
-    let run = broken(run, long);
-    let run = broken(run, waiting(format, b'x'));
-    let run = broken(run, closed);
-    let run = broken(run, over);
-    full(run, format)
+    let run = run::piece(to, with(run, whole), b"", 1, 0)?;
+    let run = broken(to, run, long)?;
+    let run = broken(to, run, waiting(format, b'x'))?;
+    let run = broken(to, run, closed)?;
+    let run = broken(to, run, over)?;
+    full(to, run, format)
 }

@@ -1,4 +1,6 @@
 // A fixed capture of each format, fed in pieces of eight sizes with refused calls in between: what is handed out, and the counts.
+#![tactic(auto)]
+
 mod captures;
 mod crafted;
 mod print;
@@ -8,6 +10,8 @@ ghost use Rattle.std.specs.Prelude.{◌<◌, ◌≤◌};
 
 use captures::Line;
 use run::Run;
+use std::io;
+use std::io::Write;
 use test_print::{write, write_u64};
 
 const SIZES: [usize; 8] = [1, 2, 3, 7, 64, 275, 276, 4096];
@@ -24,92 +28,93 @@ fn piece_end(at: usize, size: usize, n: usize) -> usize
 }
 
 // The line in pieces, each after a piece that is too long, and a close and a piece for which the output is a byte too small.
-fn fed(run: Run, line: &[u8], size: usize) -> Run {
+fn fed(to: &mut impl Write, run: Run, line: &[u8], size: usize) -> io::Result<Run> {
     let mut run = run;
     let mut at = 0;
     while at < line.len() {
         let e = piece_end(at, size, line.len());
-        run = run::too_long(run, 0, 1);
-        run = run::close_without_out(run);
-        run = run::piece(run, &line[at..e], run::out_for(run, e - at, 1), 4);
-        run = run::piece(run, &line[at..e], run::out_for(run, e - at, 0), 0);
+        run = run::too_long(to, run, 0, 1)?;
+        run = run::close_without_out(to, run)?;
+        run = run::piece(to, run, &line[at..e], run::out_for(run, e - at, 1), 4)?;
+        run = run::piece(to, run, &line[at..e], run::out_for(run, e - at, 0), 0)?;
         at = e;
     }
-    run
+    Ok(run)
 }
 
 // The close, after one for which the output is a byte too small; then calls on the closed reader.
-fn closed(run: Run) -> Run {
-    let run = run::close_without_out(run);
-    let run = run::close(run, run::out_for(run, 0, 0), 0);
-    let run = run::piece(run, b"$", 1, 2);
-    let run = run::too_long(run, 0, 2);
-    run::close(run, 0, 2)
+fn closed(to: &mut impl Write, run: Run) -> io::Result<Run> {
+    let run = run::close_without_out(to, run)?;
+    let run = run::close(to, run, run::out_for(run, 0, 0), 0)?;
+    let run = run::piece(to, run, b"$", 1, 2)?;
+    let run = run::too_long(to, run, 0, 2)?;
+    run::close(to, run, 0, 2)
 }
 
 // Prints the numbers of the refusals that were given, and not how often, since refusals 1 and 4 are given with each piece.
-fn refusals(answers: [u32; 12], wrong: u32) {
-    write(b"refused");
-    let mut k = 1;
-    while k < 12 {
+fn refusals(to: &mut impl Write, answers: [u32; 12], wrong: u32) -> io::Result<()> {
+    write(to, b"refused")?;
+    for k in 1..12 {
         if 0 < answers[k] {
-            write_u64(b" ", k as u64);
+            write_u64(to, b" ", k as u64)?;
         }
-        k += 1;
     }
     if 0 < wrong {
-        write(b", and calls that went otherwise than expected");
+        write(to, b", and calls that went otherwise than expected")?;
     }
-    write(b"\n");
+    write(to, b"\n")
 }
 
 // Feeds the line in pieces of one size, and answers the hash of all that came of it.
-fn one_size(format: u32, line: &[u8], size: usize) -> u64 {
-    write_u64(b"format ", format as u64);
-    write_u64(b", pieces of ", size as u64);
-    write(b"\n");
-    let run = crafted::refused(run::unknown(), format);
-    let run = run::too_long(run::opened(run, format), run::MAX_OUTPUT, 1);
-    let run = run::reported(fed(run, line, size), b"pieces");
-    let run = run::too_long(run, run::MAX_OUTPUT, 1);
-    let run = run::reported(closed(run), b"close");
+fn one_size(to: &mut impl Write, format: u32, line: &[u8], size: usize) -> io::Result<u64> {
+    write_u64(to, b"format ", format as u64)?;
+    write_u64(to, b", pieces of ", size as u64)?;
+    write(to, b"\n")?;
+    let run = run::unknown(to)?;
+    let run = crafted::refused(to, run, format)?;
+    let run = run::too_long(to, run::opened(run, format), run::MAX_OUTPUT, 1)?;
+    let run = fed(to, run, line, size)?;
+    let run = run::reported(to, run, b"pieces")?;
+    let run = run::too_long(to, run, run::MAX_OUTPUT, 1)?;
+    let run = closed(to, run)?;
+    let run = run::reported(to, run, b"close")?;
     let answers = run.answers;
-    refusals(answers, run.wrong);
-    run.hash
+    refusals(to, answers, run.wrong)?;
+    Ok(run.hash)
 }
 
 // All sizes, and whether all came to the same.
-fn all_sizes(format: u32, line: &[u8]) {
-    let first = one_size(format, line, SIZES[0]);
+fn all_sizes(to: &mut impl Write, format: u32, line: &[u8]) -> io::Result<()> {
+    let first = one_size(to, format, line, SIZES[0])?;
     let mut all = true;
-    let mut i = 1;
-    while i < 8 {
-        if one_size(format, line, SIZES[i]) != first {
+    for size in &SIZES[1..] {
+        if one_size(to, format, line, *size)? != first {
             all = false;
         }
-        i += 1;
     }
-    write_u64(b"format ", format as u64);
+    write_u64(to, b"format ", format as u64)?;
     if all {
-        write(b": same\n");
+        write(to, b": same\n")
     } else {
-        write(b": different\n");
+        write(to, b": different\n")
     }
 }
 
 // The capture that is the first n bytes of line.
-fn capture(format: u32, line: Line, n: usize) {
+fn capture(to: &mut impl Write, format: u32, line: Line, n: usize) -> io::Result<()> {
     if n <= line.len() {
-        all_sizes(format, &line[0..n]);
+        all_sizes(to, format, &line[0..n])?;
     }
+    Ok(())
 }
 
-fn main() {
+fn main(rt: HostRuntime) -> io::Result<()> {
+    let mut to = rt.stdout();
     let mut line: Line = [0; 4600];
     let n = captures::mgl(&mut line);
-    capture(1, line, n);
+    capture(&mut to, 1, line, n)?;
     let n = captures::onflight(&mut line);
-    capture(2, line, n);
+    capture(&mut to, 2, line, n)?;
     let n = captures::nmea(&mut line);
-    capture(3, line, n);
+    capture(&mut to, 3, line, n)
 }

@@ -5,10 +5,12 @@ ghost use Rattle.reader.specs.Refusal.{longest_piece};
 
 use super::print;
 use reader::{Outcome, Reader};
+use std::io;
+use std::io::Write;
 use test_print::{write, write_u64};
 
 // A reader after some calls.
-#[derive(Drop)]
+#[derive(Clone, Copy)]
 pub(crate) struct Run {
     pub(crate) reader: Reader,
     // The frames that the calls answered, and a hash of the bytes handed out and of the counts.
@@ -38,35 +40,19 @@ fn wide(b: u8) -> u64 {
 
 fn hashed_all(hash: u64, bytes: &[u8]) -> u64 {
     let mut h = hash;
-    let mut i = 0;
-    while i < bytes.len() {
-        h = hashed(h, wide(bytes[i]));
-        i += 1;
+    for byte in bytes {
+        h = hashed(h, wide(*byte));
     }
     h
 }
 
 // Whether an output is as it was lent.
 fn is_marked(out: &[u8]) -> bool {
-    let mut i = 0;
-    while i < out.len() {
-        if out[i] != MARK {
-            return false;
-        }
-        i += 1;
-    }
-    true
+    out.iter().all(|byte| *byte == MARK)
 }
 
 fn is_equal(a: &[u8; Reader::HELD], b: &[u8; Reader::HELD]) -> bool {
-    let mut i = 0;
-    while i < Reader::HELD {
-        if a[i] != b[i] {
-            return false;
-        }
-        i += 1;
-    }
-    true
+    a == b
 }
 
 fn is_same(a: Reader, b: Reader) -> bool {
@@ -115,12 +101,12 @@ fn noted(run: Run, answer: u32, right: bool) -> Run {
     if right {
         if k < 12 {
             let mut answers = run.answers;
-            answers[k] = std::num::wrapping_add_u32(answers[k], 1);
+            answers[k] = answers[k].wrapping_add(1);
             run.answers = answers;
             return run;
         }
     }
-    run.wrong = std::num::wrapping_add_u32(run.wrong, 1);
+    run.wrong = run.wrong.wrapping_add(1);
     run
 }
 
@@ -136,57 +122,69 @@ fn handed_out(before: u32, after: u32, out: usize) -> usize
 }
 
 // The run after a call; its frames are printed.
-fn after(run: Run, o: Outcome, out: &[u8], expected: u32) -> Run {
+fn after(to: &mut impl Write, run: Run, o: Outcome, out: &[u8], expected: u32) -> io::Result<Run> {
     let before = run.reader;
     let reader = o.reader;
     let n = handed_out(before.framed, reader.framed, out.len());
     let right = is_right(before, o, &out[n..], expected);
-    print::frames(reader.format, &out[0..n]);
+    print::frames(to, reader.format, &out[0..n])?;
     let run = noted(run, o.answer, right);
     let answers = run.answers;
-    Run {
+    Ok(Run {
         reader: reader,
-        frames: std::num::wrapping_add_u64(run.frames, o.frames as u64),
+        frames: run.frames.wrapping_add(u64::from(o.frames)),
         hash: hashed_all(run.hash, &out[0..n]),
         answers: answers,
         wrong: run.wrong,
-    }
+    })
 }
 
-fn piece_in(run: Run, bytes: &[u8], out: &mut [u8], expected: u32) -> Run {
+fn piece_in(
+    to: &mut impl Write,
+    run: Run,
+    bytes: &[u8],
+    out: &mut [u8],
+    expected: u32,
+) -> io::Result<Run> {
     let reader = run.reader;
     let o = reader.piece(bytes, out);
-    after(run, o, out, expected)
+    after(to, run, o, out, expected)
 }
 
-fn close_in(run: Run, out: &mut [u8], expected: u32) -> Run {
+fn close_in(to: &mut impl Write, run: Run, out: &mut [u8], expected: u32) -> io::Result<Run> {
     let reader = run.reader;
     let o = reader.close(out);
-    after(run, o, out, expected)
+    after(to, run, o, out, expected)
 }
 
 // A piece, with an output of n bytes.
-pub(crate) fn piece(run: Run, bytes: &[u8], n: usize, expected: u32) -> Run
+pub(crate) fn piece(
+    to: &mut impl Write,
+    run: Run,
+    bytes: &[u8],
+    n: usize,
+    expected: u32,
+) -> io::Result<Run>
     requires { n ≤ held_length + longest_piece + 1 }
 {
     let mut out = [MARK; MAX_OUTPUT];
-    piece_in(run, bytes, &mut out[0..n], expected)
+    piece_in(to, run, bytes, &mut out[0..n], expected)
 }
 
 // A close, with an output of n bytes.
-pub(crate) fn close(run: Run, n: usize, expected: u32) -> Run
+pub(crate) fn close(to: &mut impl Write, run: Run, n: usize, expected: u32) -> io::Result<Run>
     requires { n ≤ held_length + longest_piece + 1 }
 {
     let mut out = [MARK; MAX_OUTPUT];
-    close_in(run, &mut out[0..n], expected)
+    close_in(to, run, &mut out[0..n], expected)
 }
 
 // A piece that is too long by a byte, with an output of n bytes.
-pub(crate) fn too_long(run: Run, n: usize, expected: u32) -> Run
+pub(crate) fn too_long(to: &mut impl Write, run: Run, n: usize, expected: u32) -> io::Result<Run>
     requires { n ≤ held_length + longest_piece + 1 }
 {
     let zeros = [0u8; TOO_LONG];
-    piece(run, &zeros, n, expected)
+    piece(to, run, &zeros, n, expected)
 }
 
 // The smallest output for a call with n bytes, or so many bytes less.
@@ -208,11 +206,11 @@ pub(crate) fn out_for(run: Run, n: usize, less: usize) -> usize
 }
 
 // A close for which the output is a byte too small. With nothing pending no output is, and there is no call.
-pub(crate) fn close_without_out(run: Run) -> Run {
+pub(crate) fn close_without_out(to: &mut impl Write, run: Run) -> io::Result<Run> {
     if run.reader.pending == 0 {
-        return run;
+        return Ok(run);
     }
-    close(run, out_for(run, 0, 1), 4)
+    close(to, run, out_for(run, 0, 1), 4)
 }
 
 // The reader that a refused fresh request hands back.
@@ -228,7 +226,7 @@ fn refused_reader() -> Reader {
 }
 
 // A run that starts with a request for format 4, and calls on the reader that this hands back.
-pub(crate) fn unknown() -> Run {
+pub(crate) fn unknown(to: &mut impl Write) -> io::Result<Run> {
     let opening = Reader::fresh(4);
     let reader = opening.reader;
     let right = opening.answer == 11 && is_same(reader, refused_reader());
@@ -240,8 +238,8 @@ pub(crate) fn unknown() -> Run {
         wrong: 0,
     };
     let run = noted(run, opening.answer, right);
-    let run = piece(run, b"$", 1, 11);
-    close(run, 0, 11)
+    let run = piece(to, run, b"$", 1, 11)?;
+    close(to, run, 0, 11)
 }
 
 // The run goes on with a fresh reader of the format.
@@ -254,20 +252,20 @@ pub(crate) fn opened(run: Run, format: u32) -> Run {
 }
 
 // Prints the counts, and takes them into the hash.
-pub(crate) fn reported(run: Run, when: &[u8]) -> Run {
+pub(crate) fn reported(to: &mut impl Write, run: Run, when: &[u8]) -> io::Result<Run> {
     let mut run = run;
     let framed = run.reader.framed as u64;
     let skipped = run.reader.skipped as u64;
     let pending = run.reader.pending as u64;
-    write(when);
-    write_u64(b": frames ", run.frames);
-    write_u64(b", framed ", framed);
-    write_u64(b", skipped ", skipped);
-    write_u64(b", pending ", pending);
-    write(b"\n");
+    write(to, when)?;
+    write_u64(to, b": frames ", run.frames)?;
+    write_u64(to, b", framed ", framed)?;
+    write_u64(to, b", skipped ", skipped)?;
+    write_u64(to, b", pending ", pending)?;
+    write(to, b"\n")?;
     run.hash = hashed(
         hashed(hashed(hashed(run.hash, run.frames), framed), skipped),
         pending,
     );
-    run
+    Ok(run)
 }

@@ -1,9 +1,11 @@
 // The first and the last day of each month of some years, counted from 1970-01-01.
 use calendar::{Clock, DateTime};
+use std::io;
+use std::io::Write;
 use test_print::{write, write_u8, write_u16, write_units};
 
 // Takes the year as the first one, so that its number is 0.
-fn day(year: u16, month: u8, day: u8) {
+fn day(to: &mut impl Write, year: u16, month: u8, day: u8) -> io::Result<()> {
     let t = DateTime {
         year: 0,
         month,
@@ -13,35 +15,35 @@ fn day(year: u16, month: u8, day: u8) {
         second: 0,
     };
     match calendar::clock_of(t, year, 0) {
-        Clock::Good(seconds) => write_units(b"", seconds, 86_400),
-        Clock::Wrong(_) => write(b"wrong"),
-        Clock::Unset => write(b"unset"),
+        Clock::Good(seconds) => write_units(to, b"", seconds, 86_400),
+        Clock::Wrong(_) => write(to, b"wrong"),
+        Clock::Unset => write(to, b"unset"),
     }
 }
 
-fn months(year: u16) {
-    let mut month: u8 = 1;
-    while month <= 12 {
+fn months(to: &mut impl Write, year: u16) -> io::Result<()> {
+    for month in 1..=12 {
         let length = calendar::month_days(year as u32, month);
-        write_u16(b"days ", year);
-        write_u8(b"-", month);
-        write_u8(b" has ", length);
-        write(b", first ");
-        day(year, month, 1);
-        write(b", last ");
-        day(year, month, length);
-        write(b"\n");
-        month += 1;
+        write_u16(to, b"days ", year)?;
+        write_u8(to, b"-", month)?;
+        write_u8(to, b" has ", length)?;
+        write(to, b", first ")?;
+        day(to, year, month, 1)?;
+        write(to, b", last ")?;
+        day(to, year, month, length)?;
+        write(to, b"\n")?;
     }
+    Ok(())
 }
 
-pub(crate) fn years() {
-    months(1900);
-    months(1970);
-    months(1999);
-    months(2000);
-    months(2023);
-    months(2024);
-    months(2100);
-    months(2225);
+pub(crate) fn years(to: &mut impl Write) -> io::Result<()> {
+    months(to, 1900)?;
+    months(to, 1970)?;
+    months(to, 1999)?;
+    months(to, 2000)?;
+    months(to, 2023)?;
+    months(to, 2024)?;
+    months(to, 2100)?;
+    months(to, 2225)?;
+    Ok(())
 }

@@ -1,5 +1,7 @@
 // The bytes that a writer is given, and those that it makes in its output.
 use frame_writer::Writing;
+use std::io;
+use std::io::Write;
 use test_print::{write, write_hex, write_u32, write_u64};
 
 // What an output buffer has as it is lent.
@@ -7,12 +9,10 @@ pub(crate) const MARK: u8 = 0xEE;
 
 // Fills bytes so that they count up from first.
 pub(crate) fn count(bytes: &mut [u8], first: u8) {
-    let mut byte = first;
-    let mut i = 0;
-    while i < bytes.len() {
-        bytes[i] = byte;
-        byte = std::num::wrapping_add_u8(byte, 1);
-        i += 1;
+    let mut next = first;
+    for byte in bytes {
+        *byte = next;
+        next = next.wrapping_add(1);
     }
 }
 
@@ -37,19 +37,19 @@ fn behind(writing: Writing, out: &[u8]) -> &[u8] {
 }
 
 // What a writer answered.
-pub(crate) fn answer(writing: Writing) {
+pub(crate) fn answer(to: &mut impl Write, writing: Writing) -> io::Result<()> {
     match writing {
-        Writing::Written(n) => write_u64(b"written ", n as u64),
-        Writing::Refused(r) => write_u32(b"refused ", answer::refusal_number(r)),
+        Writing::Written(n) => write_u64(to, b"written ", n as u64),
+        Writing::Refused(r) => write_u32(to, b"refused ", answer::refusal_number(r)),
     }
 }
 
 // What a writer answered, the bytes that it made, and the output behind them.
-pub(crate) fn shown(writing: Writing, out: &[u8]) {
-    answer(writing);
-    write(b"\nframe ");
-    write_hex(made(writing, out));
-    write(b"\nbehind ");
-    write_hex(behind(writing, out));
-    write(b"\n");
+pub(crate) fn shown(to: &mut impl Write, writing: Writing, out: &[u8]) -> io::Result<()> {
+    answer(to, writing)?;
+    write(to, b"\nframe ")?;
+    write_hex(to, made(writing, out))?;
+    write(to, b"\nbehind ")?;
+    write_hex(to, behind(writing, out))?;
+    write(to, b"\n")
 }

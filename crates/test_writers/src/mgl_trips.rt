@@ -2,6 +2,8 @@
 use super::bytes;
 use super::bytes::MARK;
 use mgl::Header;
+use std::io;
+use std::io::Write;
 use test_print::{answers, write, write_ends, write_hex};
 
 // The body of a primary flight message, whose clock, in bytes 24 to 29, shows 17 June 2023 13:49:43.
@@ -18,37 +20,37 @@ pub(crate) fn primary() -> Header {
     }
 }
 
-fn message() {
-    write(b"MGL, the primary flight message\n");
+fn message(to: &mut impl Write) -> io::Result<()> {
+    write(to, b"MGL, the primary flight message\n")?;
     let mut out = [MARK; 48];
     let writing = frame_writer::write_mgl(primary(), &BODY, &mut out);
-    bytes::shown(writing, &out);
+    bytes::shown(to, writing, &out)?;
     let frame = bytes::made(writing, &out);
-    answers::header(mgl::read_header(frame));
-    write(b"body ");
-    write_hex(content::body(1, frame));
-    write(b"\n");
-    answers::clock(b"clock ", mgl::clock::read_clock(frame));
+    answers::header(to, mgl::read_header(frame))?;
+    write(to, b"body ")?;
+    write_hex(to, content::body(1, frame))?;
+    write(to, b"\n")?;
+    answers::clock(to, b"clock ", mgl::clock::read_clock(frame))
 }
 
-fn longest() {
-    write(b"MGL, the longest frame\n");
+fn longest(to: &mut impl Write) -> io::Result<()> {
+    write(to, b"MGL, the longest frame\n")?;
     let mut body = [0; 264];
     bytes::count(&mut body, 0);
     let mut out = [MARK; 276];
     let writing = frame_writer::write_mgl(primary(), &body, &mut out);
-    bytes::answer(writing);
-    write(b"\nframe ");
+    bytes::answer(to, writing)?;
+    write(to, b"\nframe ")?;
     let frame = bytes::made(writing, &out);
-    write_ends(frame);
-    write(b"\n");
-    answers::header(mgl::read_header(frame));
-    write(b"body ");
-    write_ends(content::body(1, frame));
-    write(b"\n");
+    write_ends(to, frame)?;
+    write(to, b"\n")?;
+    answers::header(to, mgl::read_header(frame))?;
+    write(to, b"body ")?;
+    write_ends(to, content::body(1, frame))?;
+    write(to, b"\n")
 }
 
-pub(crate) fn trips() {
-    message();
-    longest();
+pub(crate) fn trips(to: &mut impl Write) -> io::Result<()> {
+    message(to)?;
+    longest(to)
 }

@@ -2,49 +2,51 @@
 use super::bytes;
 use super::bytes::MARK;
 use nmea_plars::{Setting, SettingResult};
+use std::io;
+use std::io::Write;
 use test_print::{answers, write, write_u8, write_u32};
 
 // A sentence as text, without its CR and LF.
-pub(crate) fn text(frame: &[u8]) {
-    write(b"text ");
+pub(crate) fn text(to: &mut impl Write, frame: &[u8]) -> io::Result<()> {
+    write(to, b"text ")?;
     if 2 <= frame.len() {
         let e = frame.len() - 2;
-        write(&frame[0..e]);
+        write(to, &frame[0..e])?;
     }
-    write(b"\n");
+    write(to, b"\n")
 }
 
-fn sentence(body: &[u8]) {
-    write(b"NMEA, ");
-    write(body);
-    write(b"\n");
+fn sentence(to: &mut impl Write, body: &[u8]) -> io::Result<()> {
+    write(to, b"NMEA, ")?;
+    write(to, body)?;
+    write(to, b"\n")?;
     let mut out = [MARK; 24];
     let writing = frame_writer::write_nmea(body, &mut out);
-    bytes::shown(writing, &out);
+    bytes::shown(to, writing, &out)?;
     let frame = bytes::made(writing, &out);
-    text(frame);
-    write(b"body ");
-    write(content::body(3, frame));
-    write(b"\n");
+    text(to, frame)?;
+    write(to, b"body ")?;
+    write(to, content::body(3, frame))?;
+    write(to, b"\n")
 }
 
-fn setting(label: &[u8], given: Setting) {
-    write(label);
+fn setting(to: &mut impl Write, label: &[u8], given: Setting) -> io::Result<()> {
+    write(to, label)?;
     let mut out = [MARK; 28];
     let writing = nmea_plars_writer::write_setting(given, &mut out);
-    bytes::shown(writing, &out);
+    bytes::shown(to, writing, &out)?;
     let frame = bytes::made(writing, &out);
-    text(frame);
+    text(to, frame)?;
     match nmea_plars::read_setting(frame) {
         SettingResult::Read(x) => {
-            write(b"source ");
-            write(&[x.source]);
-            write_u8(b" parameter ", x.parameter);
-            write_u32(b" value ", x.value);
+            write(to, b"source ")?;
+            write(to, &[x.source])?;
+            write_u8(to, b" parameter ", x.parameter)?;
+            write_u32(to, b" value ", x.value)?;
         }
-        SettingResult::Refused(r) => answers::refused(b"setting ", r),
+        SettingResult::Refused(r) => answers::refused(to, b"setting ", r)?,
     }
-    write(b"\n");
+    write(to, b"\n")
 }
 
 // A setting of a parameter, by its number.
@@ -56,10 +58,11 @@ pub(crate) fn of(source: u8, parameter: u8, value: u32) -> Setting {
     }
 }
 
-pub(crate) fn trips() {
-    sentence(b"PLARB,12.33");
-    setting(b"PLARS, MC 1.3 from L\n", of(b'L', 0, 13));
-    setting(b"PLARS, BAL 0.752 from H\n", of(b'H', 1, 752));
-    setting(b"PLARS, BUGS 5 from L\n", of(b'L', 2, 5));
-    setting(b"PLARS, QNH 1013.2 from H\n", of(b'H', 3, 10132));
+pub(crate) fn trips(to: &mut impl Write) -> io::Result<()> {
+    sentence(to, b"PLARB,12.33")?;
+    setting(to, b"PLARS, MC 1.3 from L\n", of(b'L', 0, 13))?;
+    setting(to, b"PLARS, BAL 0.752 from H\n", of(b'H', 1, 752))?;
+    setting(to, b"PLARS, BUGS 5 from L\n", of(b'L', 2, 5))?;
+    setting(to, b"PLARS, QNH 1013.2 from H\n", of(b'H', 3, 10132))?;
+    Ok(())
 }

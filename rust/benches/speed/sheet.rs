@@ -60,7 +60,7 @@ struct Bench {
 /// Measures a file with captures of so many bytes.
 pub fn measure(size: usize) {
     if !program().is_file() {
-        return println!("\nNo sheet program is measured: `rt check sheet` makes target/bin/sheet.");
+        return println!("\nNo sheet program is measured: `scripts/program sheet` makes target/bin/sheet.");
     }
     let folder = Folder::fresh().expect("a temporary folder can be made");
     let long = write(folder.0.join("long"), size, CAPTURES).expect("the long file can be written");

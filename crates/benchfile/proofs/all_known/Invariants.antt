@@ -1,0 +1,16 @@
+use native.Mathlib.Nat.{add-zero}
+use Prim.Native.Nat.{◌+◌, ◌*◌, ◌-◌, ◌≤◌}
+use mathlib.Core.Path.{◌≡◌, refl, sym}
+use mathlib.Core.Bool.{true}
+use Rattle.answer.proofs.AnswerLaws.{held, failed}
+use Rattle.benchfile.specs.Toc.{all_known}
+use Rattle.benchfile.proofs.TocLaws.{known_next, not_known}
+use native.Mathlib.Omega.{arith}
+use borrow.Author.Rules.{rules}
+use Rattle.benchfile.proofs.all_known.Given as goal
+
+abbrev pub invariant-loop-i : goal.invariant-loop-i
+invariant-loop-i l = (l.i ≤ l.n) × (all_known l.s l.i ≡ true)
+
+abbrev pub decreases-loop-i : goal.decreases-loop-i
+decreases-loop-i l = l.n - l.i

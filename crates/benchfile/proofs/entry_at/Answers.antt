@@ -1,0 +1,10 @@
+use Prim.Native.Nat.{◌+◌, ◌*◌}
+use native.Mathlib.Nat.{add-zero}
+use Rattle.benchfile.specs.Toc.{entry_at}
+use borrow.Author.Rules.{rules}
+use Rattle.benchfile.proofs.entry_at.Goals as goal
+
+pub returns : goal.returns
+unfolding entry_at
+returns c = let a = c.args in
+    rw (← c.entry_start.ensures, ← c.u32_at.ensures, ← c.byte_at-2.ensures, ← add-zero (1 + 6 * a.i), ← c.byte_at.ensures)

@@ -1,0 +1,8 @@
+use Rattle.benchfile.specs.Toc.{entry_start}
+use native.Mathlib.Omega.{arith}
+use borrow.Author.Rules.{rules}
+use Rattle.benchfile.proofs.entry_start.Goals as goal
+
+pub returns : goal.returns
+unfolding entry_start
+returns c = omega arith

@@ -1,0 +1,57 @@
+use mathlib.Core.Path.{refl}
+use native.Mathlib.Omega.{arith}
+use Rattle.calendar.specs.Calendar.{plain_days}
+use Rattle.calendar.proofs.Months.{no-days}
+use Rattle.calendar.proofs.plain_days.Goals as goal
+
+pub returns-in-1 : goal.returns-in-1
+unfolding plain_days
+returns-in-1 c = rw c.in-1.is (refl, omega arith)
+
+pub returns-in-2 : goal.returns-in-2
+unfolding plain_days
+returns-in-2 c = rw c.in-2.is (refl, omega arith)
+
+pub returns-in-3 : goal.returns-in-3
+unfolding plain_days
+returns-in-3 c = rw c.in-3.is (refl, omega arith)
+
+pub returns-in-4 : goal.returns-in-4
+unfolding plain_days
+returns-in-4 c = rw c.in-4.is (refl, omega arith)
+
+pub returns-in-5 : goal.returns-in-5
+unfolding plain_days
+returns-in-5 c = rw c.in-5.is (refl, omega arith)
+
+pub returns-in-6 : goal.returns-in-6
+unfolding plain_days
+returns-in-6 c = rw c.in-6.is (refl, omega arith)
+
+pub returns-in-7 : goal.returns-in-7
+unfolding plain_days
+returns-in-7 c = rw c.in-7.is (refl, omega arith)
+
+pub returns-in-8 : goal.returns-in-8
+unfolding plain_days
+returns-in-8 c = rw c.in-8.is (refl, omega arith)
+
+pub returns-in-9 : goal.returns-in-9
+unfolding plain_days
+returns-in-9 c = rw c.in-9.is (refl, omega arith)
+
+pub returns-in-10 : goal.returns-in-10
+unfolding plain_days
+returns-in-10 c = rw c.in-10.is (refl, omega arith)
+
+pub returns-in-11 : goal.returns-in-11
+unfolding plain_days
+returns-in-11 c = rw c.in-11.is (refl, omega arith)
+
+pub returns-in-12 : goal.returns-in-12
+unfolding plain_days
+returns-in-12 c = rw c.in-12.is (refl, omega arith)
+
+pub returns-in_default : goal.returns-in_default
+unfolding plain_days
+returns-in_default c = (no-days _ c.in_default.in_default-own.rest, omega arith)

@@ -1,0 +1,9 @@
+use Rattle.nmea_sentence.proofs.FieldLaws.{ends, present, absent}
+use borrow.Author.Rules.{rules}
+use Rattle.nmea_sentence.proofs.field.Goals as goal
+
+pub returns-in_default : goal.returns-in_default
+returns-in_default c = absent _ _ _ c.find.ensures.0 c.in_default.is
+
+pub returns : goal.returns
+returns c = present _ _ _ c.find.ensures.0 _ _ c.in-At.is
