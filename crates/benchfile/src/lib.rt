@@ -1,5 +1,6 @@
 // Bench files: the table of contents, judged from the first bytes and the file's length; and the text of a sheet.
 #![tactic(auto)]
+
 pub mod sheet;
 
 ghost use Rattle.std.specs.Prelude.{◌≡◌, ◌≤◌, ◌^◌, ◌<◌};

@@ -1,4 +1,5 @@
 // Fields of NMEA sentences: RMC.
 #![tactic(auto)]
+
 mod angle;
 pub mod rmc;

@@ -1,5 +1,6 @@
 // The fields of a sentence's body, the numbers that they write, and what every field function of a sentence judges first.
 #![tactic(auto)]
+
 ghost use Rattle.std.specs.Prelude.{◌≡◌, ◌+◌, ◌≤◌, length, drop};
 ghost use Rattle.nmea_sentence.specs.Fields.{fields, field_at, from_field};
 ghost use Rattle.nmea_sentence.specs.Private.{field_of, span_bytes, Within, fields_in};

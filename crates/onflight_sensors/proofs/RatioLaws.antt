@@ -8,7 +8,7 @@ use native.Mathlib.Omega.{arith}
 use lib.Dec.{eqb-suc-zero}
 use lib.IntN.{ℤ, pos, negsuc, neg_ℤ, nat_abs, ◌*ℤ◌}
 use lib.Signed.{non_neg, nat_abs-le}
-use lib.Ieee.{Float, fin, Format, binary64, up, down, unlike, round, div, of_int}
+use lib.Ieee.{Float, nan, inf, fin, Format, binary64, up, down, unlike, round, div, of_int}
 use lib.Ieee.Fits.{up_pos, down_pos}
 use lib.Ieee.Exact.{HasValue}
 use lib.Ieee.Back.{round_whole}
@@ -32,6 +32,10 @@ cross a b x e y g h k = rw (sym (mul-one x) ∙ h, sym (mul-one y) ∙ k) (omega
 divided : (f : Format) (x y : Float) (s : Bool) (a b : ℕ) → 0 < b → HasValue x s a 1 → HasValue y false b 1
     → div f x y ≡ round f s a b
 unfolding div
+divided f nan y s a b p v w = elim v [ ]
+divided f (inf _) y s a b p v w = elim v [ ]
+divided f (fin t m e) nan s a b p v w = elim w [ ]
+divided f (fin t m e) (inf _) s a b p v w = elim w [ ]
 divided f (fin t m e) (fin u zero g) s a b p v w = absurd (omega (arith, w.1, mul-pos p (down_pos g)))
 divided f (fin t m e) (fin u (suc n) g) s a b p v w =
     let num = m * up e * down g in

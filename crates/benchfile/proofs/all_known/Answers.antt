@@ -1,11 +1,9 @@
 use native.Mathlib.Nat.{add-zero}
-use Prim.Native.Nat.{◌+◌, ◌*◌, ◌-◌, ◌≤◌}
-use mathlib.Core.Path.{◌≡◌, refl, sym}
-use mathlib.Core.Bool.{true}
+use Prim.Native.Nat.{◌+◌, ◌*◌}
+use mathlib.Core.Path.{refl, sym}
 use Rattle.answer.proofs.AnswerLaws.{held, failed}
 use Rattle.benchfile.specs.Toc.{all_known}
 use Rattle.benchfile.proofs.TocLaws.{known_next, not_known}
-use native.Mathlib.Omega.{arith}
 use borrow.Author.Rules.{rules}
 use Rattle.benchfile.proofs.all_known.Goals as goal
 

@@ -1,7 +1,6 @@
 use Prim.Native.Nat.{◌+◌, ◌*◌}
 use native.Mathlib.Nat.{add-zero}
 use Rattle.benchfile.specs.Toc.{entry_at}
-use borrow.Author.Rules.{rules}
 use Rattle.benchfile.proofs.entry_at.Goals as goal
 
 pub returns : goal.returns

@@ -1,6 +1,5 @@
 use Rattle.benchfile.specs.Toc.{entry_start}
 use native.Mathlib.Omega.{arith}
-use borrow.Author.Rules.{rules}
 use Rattle.benchfile.proofs.entry_start.Goals as goal
 
 pub returns : goal.returns

@@ -1,6 +1,5 @@
 use borrow.Author.Tests.{le-leb, lt-leb}
 use Rattle.benchfile.specs.Toc.{most_entries, is_toc}
-use borrow.Author.Rules.{rules}
 use Rattle.benchfile.proofs.is_toc.Goals as goal
 
 pub returns-then-n-lt1 : goal.returns-then-n-lt1

@@ -1,7 +1,6 @@
 use Rattle.benchfile.proofs.TocLaws.{length-is}
 use Rattle.answer.proofs.AnswerLaws.{held, failed}
 use Rattle.benchfile.specs.Toc.{is_whole_file}
-use borrow.Author.Rules.{rules}
 use Rattle.benchfile.proofs.is_whole_file.Goals as goal
 
 pub returns-then-not-is_toc : goal.returns-then-not-is_toc

@@ -1,6 +1,5 @@
 use Rattle.answer.proofs.AnswerLaws.{answers}
 use Rattle.benchfile.specs.Toc.{entry_count_of}
-use borrow.Author.Rules.{rules}
 use Rattle.benchfile.proofs.read_count.Goals as goal
 
 pub returns-then-not-is_whole_file : goal.returns-then-not-is_whole_file

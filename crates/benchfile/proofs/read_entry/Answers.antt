@@ -1,7 +1,6 @@
 use Rattle.answer.proofs.AnswerLaws.{held, after, answers}
 use borrow.Author.Tests.{lt-ltb, le-ltb}
 use Rattle.benchfile.specs.Toc.{entry_of}
-use borrow.Author.Rules.{rules}
 use Rattle.benchfile.proofs.read_entry.Goals as goal
 
 pub returns-then-not-is_whole_file : goal.returns-then-not-is_whole_file

@@ -1,7 +1,6 @@
 use Rattle.benchfile.proofs.TocLaws.{length-is}
 use Rattle.answer.proofs.AnswerLaws.{answers}
 use Rattle.benchfile.specs.Toc.{file_length_of}
-use borrow.Author.Rules.{rules}
 use Rattle.benchfile.proofs.read_length.Goals as goal
 
 pub returns-then-not-is_toc : goal.returns-then-not-is_toc

@@ -1,5 +1,4 @@
-use Prim.Native.Nat.{◌*◌, ◌-◌, ◌≤◌}
-use mathlib.Core.Path.{◌≡◌, refl}
+use mathlib.Core.Path.{refl}
 use Rattle.benchfile.specs.Toc.{total_length}
 use Rattle.benchfile.proofs.TocLaws.{total-length-next}
 use native.Mathlib.Omega.{arith}

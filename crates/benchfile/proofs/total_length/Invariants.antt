@@ -1,9 +1,6 @@
 use Prim.Native.Nat.{◌*◌, ◌-◌, ◌≤◌}
-use mathlib.Core.Path.{◌≡◌, refl}
+use mathlib.Core.Path.{◌≡◌}
 use Rattle.benchfile.specs.Toc.{total_length}
-use Rattle.benchfile.proofs.TocLaws.{total-length-next}
-use native.Mathlib.Omega.{arith}
-use borrow.Author.Rules.{rules}
 use Rattle.benchfile.proofs.total_length.Given as goal
 
 -- a length is below 2 to the 32

@@ -1,4 +1,3 @@
-use borrow.Author.Rules.{rules}
 use Rattle.nmea_sentence.proofs.CountLaws.{count-told}
 use Rattle.nmea_sentence.proofs.count_in.Goals as goal
 

@@ -1,5 +1,4 @@
-use Rattle.nmea_sentence.proofs.FieldLaws.{ends, present, absent}
-use borrow.Author.Rules.{rules}
+use Rattle.nmea_sentence.proofs.FieldLaws.{present, absent}
 use Rattle.nmea_sentence.proofs.field.Goals as goal
 
 pub returns-in_default : goal.returns-in_default

@@ -1,9 +1,6 @@
-use Prim.Native.Nat.{◌-◌}
-use lib.ListN.{length}
-use mathlib.Core.Logic.{⊎_elim}
-use Rattle.nmea_sentence.proofs.FieldLaws.{Walk, walk_start, walk-plain, walk-comma, found, last, missing}
-use borrow.Author.Rules.{rules}
+use Rattle.nmea_sentence.proofs.FieldLaws.{walk_start, walk-plain, walk-comma, found, last, missing}
 use Rattle.nmea_sentence.proofs.find.Goals as goal
+use Rattle.nmea_sentence.proofs.find.Goals.{then-s-k-eq44+else-left-eq0, else-s-k-eq44}
 
 pub loop-k-init : goal.loop-k-init
 loop-k-init c = walk_start c.args.s.now c.args.i
@@ -15,10 +12,10 @@ returns-then-left-eq0 c = let w = c.loop-k.invariant in
 pub loop-k-preserved : goal.loop-k-preserved
 loop-k-preserved c = let w = c.loop-k.invariant in
     let h = c.loop-k-test.true in
-    ⊎_elim
-    (λ u. walk-comma _ _ _ _ _ w h u.0.taken u.1.left _ _ u.2 u.3)
-    (λ u. walk-plain _ _ _ _ _ w h u.0.left _ _ u.1 u.2)
-    c.if-s-k-eq44.branch
+    elim c.if-s-k-eq44.branch [
+      | then-s-k-eq44+else-left-eq0 u ↦ walk-comma _ _ _ _ _ w h u.if-s-k-eq44.true u.if-left-eq0.false _ _ u.start-is u.left-is
+      | else-s-k-eq44 u ↦ walk-plain _ _ _ _ _ w h u.if-s-k-eq44.false _ _ u.start-is u.left-is
+    ]
 
 pub returns-then-left-eq0-2 : goal.returns-then-left-eq0-2
 returns-then-left-eq0-2 c = let w = c.loop-k.invariant in

@@ -1,8 +1,6 @@
 use Prim.Native.Nat.{◌-◌}
 use lib.ListN.{length}
-use mathlib.Core.Logic.{⊎_elim}
-use Rattle.nmea_sentence.proofs.FieldLaws.{Walk, walk_start, walk-plain, walk-comma, found, last, missing}
-use borrow.Author.Rules.{rules}
+use Rattle.nmea_sentence.proofs.FieldLaws.{Walk}
 use Rattle.nmea_sentence.proofs.find.Given as goal
 
 abbrev pub invariant-loop-k : goal.invariant-loop-k

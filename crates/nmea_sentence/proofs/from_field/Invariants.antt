@@ -1,9 +1,6 @@
-use Prim.Native.Nat.{◌-◌, ◌<◌}
+use Prim.Native.Nat.{◌-◌}
 use lib.ListN.{length}
-use mathlib.Core.Logic.{⊎_elim}
-use native.Mathlib.Omega.{arith}
-use borrow.Author.Rules.{rules}
-use Rattle.nmea_sentence.proofs.FromLaws.{Passed, pass-start, pass-comma, pass-plain, pass-done, pass-short}
+use Rattle.nmea_sentence.proofs.FromLaws.{Passed}
 use Rattle.nmea_sentence.proofs.from_field.Given as goal
 
 abbrev pub invariant-loop-left : goal.invariant-loop-left

@@ -1,8 +1,6 @@
-use borrow.Author.Rules.{rules}
-use native.Mathlib.Omega.{arith}
 use Prim.Native.Nat.{◌-◌}
 use lib.ListN.{length}
-use Rattle.nmea_sentence.proofs.TagLaws.{Begun, begin, first-none, first-comma, begun-short, begun-whole, begun-other, begun_more, begun-last}
+use Rattle.nmea_sentence.proofs.TagLaws.{Begun}
 use Rattle.nmea_sentence.proofs.has_tag.Given as goal
 
 abbrev pub invariant-loop-i : goal.invariant-loop-i

@@ -1,7 +1,4 @@
-use Prim.Native.Nat.{◌-◌}
-use lib.ListN.{length}
-use Rattle.nmea_sentence.proofs.DigitLaws.{Read, long, start, out, turn, low, high, done}
-use native.Mathlib.Omega.{arith}
+use Rattle.nmea_sentence.proofs.DigitLaws.{long, start, turn, low, high, done}
 use borrow.Author.Rules.{rules}
 use Rattle.nmea_sentence.proofs.parse_digits.Goals as goal
 

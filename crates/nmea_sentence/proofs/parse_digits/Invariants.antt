@@ -1,8 +1,6 @@
 use Prim.Native.Nat.{◌-◌}
 use lib.ListN.{length}
-use Rattle.nmea_sentence.proofs.DigitLaws.{Read, long, start, out, turn, low, high, done}
-use native.Mathlib.Omega.{arith}
-use borrow.Author.Rules.{rules}
+use Rattle.nmea_sentence.proofs.DigitLaws.{Read}
 use Rattle.nmea_sentence.proofs.parse_digits.Given as goal
 
 abbrev pub invariant-loop-i : goal.invariant-loop-i

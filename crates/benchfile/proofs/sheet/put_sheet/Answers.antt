@@ -1,22 +1,23 @@
 use Rattle.benchfile.proofs.SheetLaws.{sheet-length, sheet-laid}
 use native.Mathlib.Omega.{arith}
-use borrow.Author.Rules.{rules}
 use Rattle.benchfile.proofs.sheet.put_sheet.Goals as goal
 
 pub put_line-frames-requires : goal.put_line-frames-requires
-put_line-frames-requires c = search rules
+put_line-frames-requires c = omega (arith, sheet-length c.args.sheet)
 
 pub put_line-framed-requires : goal.put_line-framed-requires
 put_line-framed-requires c = omega (arith, sheet-length c.args.sheet)
 
 pub put_line-skipped-requires : goal.put_line-skipped-requires
-put_line-skipped-requires c = search rules
+put_line-skipped-requires c = omega (arith, sheet-length c.args.sheet)
 
 pub put_line-pending-requires : goal.put_line-pending-requires
 put_line-pending-requires c = omega (arith, sheet-length c.args.sheet)
 
 pub put_line-requires : goal.put_line-requires
-put_line-requires c = search rules
+put_line-requires c = omega (arith, sheet-length c.args.sheet)
 
 pub returns : goal.returns
-returns c = search rules
+returns c =
+    sheet-laid c.args.sheet c.args.text.now c.requires
+    c.put_line-frames.ensures c.put_line-framed.ensures c.put_line-skipped.ensures c.put_line-pending.ensures c.put_line.ensures

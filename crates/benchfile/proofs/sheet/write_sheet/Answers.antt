@@ -1,9 +1,8 @@
-use Prim.Native.Nat.{◌<◌, ◌≤◌}
+use Prim.Native.Nat.{◌<◌}
 use Rattle.benchfile.specs.Sheet.{sheet_text}
 use Rattle.benchfile.proofs.SheetLaws.{sheet-short}
-use mathlib.Core.Path.{◌≡◌, sym, ap, ◌∙◌}
-use lib.ListN.{length, length-take}
-use borrow.Author.Tests.{le-leb, lt-leb}
+use lib.ListN.{length}
+use borrow.Author.Tests.{lt-leb}
 use Rattle.buffer.proofs.BufferLaws.{copied_none}
 use native.Mathlib.Omega.{arith}
 use borrow.Author.Rules.{rules}

@@ -3,9 +3,8 @@ use mathlib.Core.Path.{◌∙◌, ap}
 use native.Mathlib.Omega.{arith}
 use lib.Dec.{lit<}
 use lib.IntN.{pos, ◌-ℤ◌}
-use borrow.Author.Rules.{rules}
 use mir.Syntax.{w32}
-use Rattle.numbers.proofs.Difference.{less-fits, less-back}
+use Rattle.numbers.proofs.Difference.{less-back}
 use Rattle.framing.specs.Format.{format_of}
 use Rattle.answer.specs.Answer.{given}
 use Rattle.answer.proofs.AnswerLaws.{after, fails, held, failed}

@@ -1,6 +1,5 @@
 use Prim.Native.Nat.{ℕ, ◌/◌, ◌%◌}
 use mathlib.Core.Path.{◌∙◌, ap}
-use borrow.Author.Rules.{rules}
 use Rattle.framing.specs.Format.{format_of}
 use Rattle.answer.specs.Answer.{given}
 use Rattle.answer.proofs.AnswerLaws.{after, fails, held, failed}

@@ -2,7 +2,6 @@ use Prim.Native.Nat.{ℕ}
 use mathlib.Core.Path.{ap}
 use lib.Ieee.{of_int, of_bits}
 use lib.IntN.{pos}
-use borrow.Author.Rules.{rules}
 use Rattle.framing.specs.Format.{format_of}
 use Rattle.answer.specs.Answer.{given}
 use Rattle.answer.proofs.AnswerLaws.{after, fails, held, failed}

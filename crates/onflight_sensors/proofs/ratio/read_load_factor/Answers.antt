@@ -1,7 +1,6 @@
 use mathlib.Core.Path.{ap}
 use lib.Ieee.{of_int, of_bits}
 use lib.IntN.{ℤ}
-use borrow.Author.Rules.{rules}
 use mir.Syntax.{w16}
 use Rattle.numbers.proofs.Size.{called}
 use Rattle.framing.specs.Format.{format_of}

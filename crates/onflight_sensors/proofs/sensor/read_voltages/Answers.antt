@@ -1,4 +1,3 @@
-use borrow.Author.Rules.{rules}
 use Rattle.framing.specs.Format.{format_of}
 use Rattle.answer.proofs.AnswerLaws.{after, fails, held, failed}
 use Rattle.onflight_sensors.specs.Sensor.{voltages_of}
