@@ -1,5 +1,6 @@
 // PLARS settings, in one spelling only.
 #![tactic(auto)]
+
 ghost use Rattle.std.specs.Prelude.{◌≡◌, ◌≤◌, ◌^◌};
 ghost use Rattle.nmea_sentence.specs.Digits.{digits_of};
 ghost use Rattle.nmea_plars.specs.Plars.{rule_of, form_of, parameter_of, is_whole_part, steps, value_of, is_source, setting_answer, ranged, fields_setting, setting_of};
