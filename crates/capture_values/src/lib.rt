@@ -1,6 +1,7 @@
 // Every field function by its number, its answer as a number and up to 21 signed values: for callers in other languages
 // (include/capture.h).
 #![tactic(auto)]
+
 mod mgl_values;
 mod nmea_values;
 mod onflight_values;

@@ -1,5 +1,4 @@
 use mathlib.Core.Path.{ap, ◌∙◌}
-use borrow.Author.Rules.{rules}
 use Rattle.capture_values.specs.FieldFunctions.{elapsed_values}
 use Rattle.capture_values.specs.Values.{values_of, number_values}
 use Rattle.capture_values.proofs.elapsed.Goals as goal

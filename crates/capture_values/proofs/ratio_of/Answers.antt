@@ -1,5 +1,4 @@
 use lib.Ieee.{of_int, of_bits}
-use borrow.Author.Rules.{rules}
 use Rattle.capture_values.proofs.ratio_of.Goals as goal
 
 pub returns-in-Refused : goal.returns-in-Refused

@@ -1,4 +1,3 @@
-use borrow.Author.Rules.{rules}
 use Rattle.framing.specs.Format.{format_of}
 use Rattle.framing.proofs.FormatLaws.{no-format}
 use Rattle.capture_values.specs.FieldFunctions.{field_functions, read_values}

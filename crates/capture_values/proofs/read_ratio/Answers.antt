@@ -1,6 +1,5 @@
 use mathlib.Core.Path.{ap, ◌∙◌}
 use lib.Ieee.{of_int, of_bits}
-use borrow.Author.Rules.{rules}
 use borrow.Author.Tests.{ne_eqb}
 use Rattle.capture_values.specs.FieldFunctions.{ratio_value, ratio_of}
 use Rattle.capture_values.proofs.read_ratio.Goals as goal

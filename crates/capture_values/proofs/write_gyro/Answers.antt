@@ -1,10 +1,10 @@
 use mathlib.Core.Path.{refl, ap}
-use borrow.Author.Rules.{sfits_of, rules}
+use borrow.Author.Rules.{sfits_of}
 use mir.Syntax.{w16, w32}
 use Rattle.numbers.proofs.Size.{stays}
 use Rattle.mgl_gyro.specs.Gyro.{number_of}
 use Rattle.capture_values.specs.FieldFunctions.{gyro_values}
-use Rattle.capture_values.proofs.RowLaws.{signed, casts, same_row}
+use Rattle.capture_values.proofs.RowLaws.{signed, same_row}
 use Rattle.capture_values.proofs.write_gyro.Goals as goal
 
 pub returns-in-Number : goal.returns-in-Number

@@ -1,9 +1,9 @@
 use mathlib.Core.List.{[], ◌∷◌}
 use native.Mathlib.Omega.{arith}
-use borrow.Author.Rules.{sfits_of, rules}
+use borrow.Author.Rules.{sfits_of}
 use mir.Syntax.{w16, w32}
 use Rattle.capture_values.specs.Values.{numbered}
-use Rattle.capture_values.proofs.RowLaws.{casts, unsigned, signed, yes_or_no}
+use Rattle.capture_values.proofs.RowLaws.{unsigned, signed, yes_or_no}
 use Rattle.capture_values.proofs.mgl_values.gps_row.Goals as goal
 
 pub returns : goal.returns

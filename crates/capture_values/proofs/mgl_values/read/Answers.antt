@@ -1,5 +1,4 @@
 use mathlib.Core.Path.{sym, ap, ◌∙◌}
-use borrow.Author.Rules.{rules}
 use Rattle.framing.specs.Format.{mgl, format_of}
 use Rattle.capture_values.specs.FieldFunctions.{field_functions}
 use Rattle.capture_values.specs.Values.{values_of, clock_list, gps_values, header_values, number_values, tank_values}

@@ -1,5 +1,4 @@
 use mathlib.Core.Path.{sym, ap, ◌∙◌}
-use borrow.Author.Rules.{rules}
 use Rattle.framing.specs.Format.{nmea, format_of}
 use Rattle.capture_values.specs.FieldFunctions.{field_functions}
 use Rattle.capture_values.specs.Values.{values_of, clock_list, number_values, position_values, setting_values}

@@ -1,5 +1,4 @@
 use mathlib.Core.Path.{sym, ap, ◌∙◌}
-use borrow.Author.Rules.{rules}
 use Rattle.framing.specs.Format.{onflight, format_of}
 use Rattle.capture_values.specs.FieldFunctions.{field_functions}
 use Rattle.capture_values.specs.Values.{values_of, axes_values, clock_list, number_values, pair_values, position_values, signed_values, status_values}

@@ -1,6 +1,5 @@
 use mathlib.Core.Path.{refl}
 use native.Mathlib.Omega.{arith}
-use borrow.Author.Rules.{rules}
 use Rattle.capture_values.proofs.RowLaws.{near, unsigned, same_row}
 use Rattle.capture_values.proofs.shared.place_values.Goals as goal
 
