@@ -1,5 +1,5 @@
 -- The frames that the writers make, and the bodies that they take (docs/FORMATS.md, "Writers").
-use Rattle.std.specs.Prelude.{ℕ, ◌+◌, ◌-◌, ◌/◌, ◌%◌, Bool, true, false, ◌&&◌, List, [], ◌∷◌, ◌++◌, leb, eqb, length}
+use Rattle.std.specs.Prelude.{ℕ, ◌-◌, ◌/◌, ◌%◌, Bool, true, false, ◌&&◌, List, [], ◌∷◌, ◌++◌, leb, eqb, length}
 use Rattle.numbers.specs.Low.{low_bytes}
 use Rattle.numbers.specs.Hex.{hex_digit_of}
 use Rattle.checksum.specs.Crc.{crc_of}

@@ -1,5 +1,6 @@
 // Writers of whole frames, each into a caller's output buffer.
 #![tactic(auto)]
+
 ghost use Rattle.std.specs.Prelude.{◌≡◌};
 ghost use Rattle.framing.specs.Format.{mgl, onflight, nmea};
 ghost use Rattle.frame_writer.specs.Output.{writing_answer, write};
