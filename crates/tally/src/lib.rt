@@ -1,5 +1,6 @@
 // A capture read call by call to its end, for its sheet: the reader, and the frames that it handed out.
 #![tactic(auto)]
+
 ghost use Rattle.std.specs.Prelude.{◌≡◌};
 ghost use Rattle.reader.specs.Calls.{a_piece, a_close};
 ghost use Rattle.tally.specs.Step.{fresh_tally, stepped, after_outcome, tally_step, sheet_of};

@@ -1,4 +1,3 @@
-use Rattle.std.proofs.Common.{rules}
 use Rattle.tally.proofs.StepLaws.{step-refused, step-taken}
 use Rattle.tally.proofs.Tally.close.Goals as goal
 

@@ -1,4 +1,3 @@
-use Rattle.std.proofs.Common.{rules}
 use Rattle.tally.specs.Step.{fresh_tally}
 use Rattle.tally.proofs.Tally.fresh.Goals as goal
 
