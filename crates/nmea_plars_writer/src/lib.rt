@@ -1,5 +1,6 @@
 // PLARS settings written, in one spelling only.
 #![tactic(auto)]
+
 ghost use Rattle.std.specs.Prelude.{◌≡◌, true, ◌+◌, ◌<◌, ◌≤◌, ◌^◌, length, take};
 ghost use Rattle.buffer.specs.Buffer.{copied};
 ghost use Rattle.nmea_plars.specs.Plars.{rule_of};
