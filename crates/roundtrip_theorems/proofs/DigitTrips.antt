@@ -19,10 +19,10 @@ use Rattle.nmea_sentence.proofs.DigitLaws.{decimal-below}
 -- ---- digits
 
 -- as `decimal` says it, and as `nmea_sentence` does
-pub all_digits : (s : List ℕ) → Digits s → all_digits s ≡ true
+pub all_digits_lem : (s : List ℕ) → Digits s → all_digits s ≡ true
 unfolding all_digits
-all_digits [] d = refl
-all_digits (b ∷ s) d = simp (le-leb 0x30 b d.0.0, le-leb b 0x39 d.0.1, all_digits s d.1)
+all_digits_lem [] d = refl
+all_digits_lem (b ∷ s) d = simp (le-leb 0x30 b d.0.0, le-leb b 0x39 d.0.1, all_digits_lem s d.1)
 
 -- a first digit, and those after it
 first_of : (b : ℕ) (s : List ℕ) → all_digits (b ∷ s) ≡ true → (0x30 ≤ b) × (b ≤ 0x39) × (all_digits s ≡ true)

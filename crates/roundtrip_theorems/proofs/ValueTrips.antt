@@ -21,7 +21,7 @@ use Rattle.nmea_sentence.specs.Digits.{all_digits, decimal, digits_of}
 use Rattle.nmea_sentence.proofs.DigitLaws.{Written, written, reads, digits-below}
 use Rattle.nmea_plars.specs.Plars.{is_whole_part, steps, value_of}
 use Rattle.nmea_plars_writer.specs.Text.{value_text}
-use Rattle.roundtrip_theorems.proofs.DigitTrips.{all_digits, text-decimal, decimals-split, written_all, written_last, leading, count-text}
+use Rattle.roundtrip_theorems.proofs.DigitTrips.{all_digits_lem, text-decimal, decimals-split, written_all, written_last, leading, count-text}
 
 -- ---- written, then read
 
@@ -40,11 +40,11 @@ whole-text (b ∷ c ∷ s) e h =
 last-reads : (k n : ℕ) → k ≤ 9 → digits_of (last_digits k n) ≡ Of (decimal (last_digits k n))
 last-reads k n h =
     let s = last_digits k n in
-    sym (reads s (decimal s) (record { digits = all_digits s (last_digits_lem k n); value = refl; few = omega (arith, length_last k n) }))
+    sym (reads s (decimal s) (record { digits = all_digits_lem s (last_digits_lem k n); value = refl; few = omega (arith, length_last k n) }))
 
 module _ (n : ℕ) where
   text-whole : is_whole_part (decimal_text n) ≡ true
-  text-whole = whole-text (decimal_text n) (all_digits (decimal_text n) (text-digits n)) (text-length n ∙ ap digit_count (sym (text-decimal n)))
+  text-whole = whole-text (decimal_text n) (all_digits_lem (decimal_text n) (text-digits n)) (text-length n ∙ ap digit_count (sym (text-decimal n)))
 
   text-reads : digit_count n ≤ 9 → digits_of (decimal_text n) ≡ Of n
   unfolding decimal_text
