@@ -1,5 +1,6 @@
 // A bench file read by read, in constant memory, and what is printed of it.
 #![tactic(auto)]
+
 ghost use Rattle.std.specs.Prelude.{◌≡◌, cond, ◌+◌, ◌<◌, ◌≤◌, leb, ltb, length, take};
 ghost use mathlib.Core.List.{flat_map};
 ghost use Rattle.buffer.specs.Buffer.{copied};
