@@ -10,8 +10,15 @@ use Prim.Native.Nat.{ℕ, ◌+◌, ◌≤◌}
 use borrow.Author.Rules.{rules}
 use Rattle.report.proofs.put_sheet.Goals as goal
 
+-- the text is short, and was written whole
 pub returns : goal.returns
-returns c = let short : length (sheet_text c.args.sheet) ≤ longest_sheet = sheet-short c.args.sheet (search rules) (search rules) (search rules) (search rules) (search rules) in
-    let wrote : c.write_sheet-n.result ≡ length (sheet_text c.args.sheet) = written _ (sheet_text c.args.sheet) (replicate longest_sheet 0) short c.write_sheet-n.ensures.0 in
+returns c =
     let a = c.args in
-    (ap (λ (n : ℕ). a.at + n) wrote, (short, c.copy.ensures ∙ ap (λ (x : List ℕ). copied x a.text.now a.at) (rw (c.write_sheet-n.ensures.1, wrote) (first-copied (sheet_text a.sheet) (replicate longest_sheet 0) short))))
+    let w = c.write_sheet-n in
+    let text = sheet_text a.sheet in
+    let short : length text ≤ longest_sheet = sheet-short a.sheet (search rules) (search rules) (search rules) (search rules) (search rules) in
+    let wrote : w.result ≡ length text = written _ text (replicate longest_sheet 0) short w.ensures.0 in
+    (ap (λ (n : ℕ). a.at + n) wrote,
+     (short,
+      c.copy.ensures
+      ∙ ap (λ (x : List ℕ). copied x a.text.now a.at) (rw (w.ensures.1, wrote) (first-copied text (replicate longest_sheet 0) short))))
