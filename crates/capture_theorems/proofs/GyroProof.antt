@@ -4,7 +4,7 @@ use mathlib.Core.Path.{◌≡◌, sym, ap, subst, ◌∙◌}
 use lib.IntN.{ℤ}
 use mir.Syntax.{w16}
 use mir.Val.{SFits}
-use Rattle.answer.specs.Answer.{Answer, given}
+use Rattle.answer.specs.Answer.{Answer}
 use Rattle.mgl_gyro.specs.Gyro.{hundredths_of, number_of}
 use Rattle.roundtrip_theorems.proofs.GyroTrips.{gyro-read-then-written, gyro-exactly}
 use Rattle.capture_values.specs.Values.{values_of, signed_values}

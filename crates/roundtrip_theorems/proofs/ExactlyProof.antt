@@ -1,11 +1,11 @@
 -- Bytes are a frame exactly if they are the layout of some content.
 -- Assumes nothing.
-use Prim.Native.Nat.{ℕ, zero, suc, ◌-◌, ◌≤◌}
+use Prim.Native.Nat.{ℕ, ◌-◌}
 use mathlib.Core.Path.{◌≡◌, refl, sym, subst}
 use mathlib.Core.Bool.{true}
-use mathlib.Core.List.{List, [], ◌∷◌}
+use mathlib.Core.List.{List}
 use native.Mathlib.Omega.{arith}
-use lib.ListN.{length, take, drop}
+use lib.ListN.{length, drop}
 use borrow.Author.Tests.{eq-eqb}
 use Rattle.framing.specs.Format.{Format, mgl, onflight, nmea, unknown, shortest, longest, good, body_start, body_end}
 use Rattle.framing.specs.Meaning.{Bytes}

@@ -5,7 +5,6 @@ use mathlib.Core.Path.{◌≡◌, refl, sym, ap, ◌∙◌, subst}
 use mathlib.Core.Bool.{true}
 use mathlib.Core.List.{List, [], ◌∷◌, ◌++◌}
 use native.Mathlib.Omega.{arith}
-use lib.Dec.{eqb}
 use lib.ListN.{length, replicate, length-append, length-replicate}
 use borrow.Author.Tests.{eq-eqb}
 use Rattle.framing.specs.declared.Scanned.TheVariants.{Whole}
@@ -19,7 +18,7 @@ use Rattle.framing.proofs.MglLaws.{mgl-counts}
 use Rattle.framing.proofs.OnflightLaws.{onflight-counts}
 use Rattle.framing.proofs.Length.{whole-within}
 use Rattle.frame_writer.specs.Frames.{all_permitted}
-use Rattle.roundtrip_theorems.specs.Exactly.{MglShape, OnflightShape, NmeaShape, Shaped, ShapesExactly, ShapeOf, LayoutTight}
+use Rattle.roundtrip_theorems.specs.Exactly.{NmeaShape, Shaped, ShapesExactly, ShapeOf, LayoutTight}
 use Rattle.roundtrip_theorems.proofs.WordLaws.{body-bytes-are, hex-digit-is}
 use Rattle.roundtrip_theorems.proofs.ShapeBack.{last_five, mgl-head, onflight-head, nmea-ends}
 use Rattle.roundtrip_theorems.proofs.BinaryWritten.{filled}

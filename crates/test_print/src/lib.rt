@@ -1,5 +1,6 @@
 // What the programs write: text, labels with a number, bytes in hexadecimal, the answers of field functions.
 #![tactic(auto)]
+
 pub mod answers;
 
 use numbers::hex_digit;

@@ -2,7 +2,6 @@ use Prim.Native.Nat.{ℕ}
 use mathlib.Core.List.{[]}
 use mathlib.Core.Path.{refl, ap, ◌∙◌}
 use native.Mathlib.Omega.{arith}
-use borrow.Author.Rules.{rules}
 use Rattle.benchfile.specs.Toc.{entry_count_of}
 use Rattle.capture_values.specs.Values.{numbered}
 use Rattle.capture_values.proofs.RowLaws.{unsigned, same_row}

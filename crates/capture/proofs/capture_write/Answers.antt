@@ -1,5 +1,4 @@
 use mathlib.Core.Path.{◌∙◌}
-use borrow.Author.Rules.{rules}
 use Rattle.framing.specs.Format.{format_of}
 use Rattle.framing.proofs.FormatLaws.{no-format}
 use Rattle.frame_writer.specs.Frames.{takes}
