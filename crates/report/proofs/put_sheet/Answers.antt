@@ -17,8 +17,11 @@ returns c =
     let w = c.write_sheet-n in
     let text = sheet_text a.sheet in
     let short : length text ≤ longest_sheet = sheet-short a.sheet (search rules) (search rules) (search rules) (search rules) (search rules) in
-    let wrote : w.result ≡ length text = written _ text (replicate longest_sheet 0) short w.ensures.0 in
-    (ap (λ (n : ℕ). a.at + n) wrote,
-     (short,
-      c.copy.ensures
-      ∙ ap (λ (x : List ℕ). copied x a.text.now a.at) (rw (w.ensures.1, wrote) (first-copied text (replicate longest_sheet 0) short))))
+    let wrote : w.result ≡ length text = written _ text (replicate longest_sheet 0) short w.ensures.0 in (
+      ap (λ (n : ℕ). a.at + n) wrote,
+      (
+        short,
+        c.copy.ensures
+            ∙ ap (λ (x : List ℕ). copied x a.text.now a.at) (rw (w.ensures.1, wrote) (first-copied text (replicate longest_sheet 0) short)),
+      ),
+    )
