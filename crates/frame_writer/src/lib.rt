@@ -17,6 +17,7 @@ pub enum Writing {
 }
 
 // Whether an MGL body is taken.
+#[tactic(auto, using(std::proofs::lemmas::Bool::Decides::nat_tests), unfolding(crate::specs::Frames::takes))]
 fn takes_mgl(body: &[u8]) -> bool
     ensures { result ≡ takes mgl body.now }
 {
