@@ -1,3 +1,4 @@
+-- antt computes the table by its rule, and finds it to be the constant.
 use Rattle.checksum.specs.Crc.{bit_step, bit_steps}
 use Rattle.checksum.specs.Private.{table_from, crc_table}
 use Rattle.checksum.proofs.Table.{same}

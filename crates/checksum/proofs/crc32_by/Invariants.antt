@@ -4,6 +4,7 @@ use lib.Bits.{bit_xor}
 use Rattle.checksum.specs.Crc.{byte_step, crc_of}
 use Rattle.checksum.proofs.crc32_by.Given as goal
 
+-- The invariant: the fold of what is left, from c, is the fold of the whole.
 abbrev pub invariant-loop-i : goal.invariant-loop-i
 invariant-loop-i l = (l.i ≤ length l.s) × (bit_xor (foldl byte_step l.c (drop l.i l.s)) 0xFFFFFFFF ≡ crc_of l.s)
 

@@ -7,6 +7,7 @@ use Rattle.checksum.proofs.fletcher16.Given as goal
 unfoldable pub weighted-left : ℕ → ℕ → List ℕ → ℕ → ℕ
 weighted-left a b s i = foldl add_mod255 b (plain_sums a (drop i s))
 
+-- The invariant: each sum of what is left, from the sum so far, is the sum of the whole.
 abbrev pub invariant-loop-i : goal.invariant-loop-i
 invariant-loop-i l = (l.i ≤ length l.s) × (foldl add_mod255 (l.a % 255) (drop l.i l.s) ≡ sum_mod255 l.s) × (weighted-left (l.a % 255) (l.b % 255) l.s l.i ≡ sum_mod255 (plain_sums 0 l.s))
 

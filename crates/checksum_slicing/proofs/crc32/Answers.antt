@@ -10,7 +10,9 @@ pub returns-then-s-eq0 : goal.returns-then-s-eq0
 returns-then-s-eq0 c = of-nothing _ c.if-s-eq0.true
 
 pub returns-then-s-i : goal.returns-then-s-i
-returns-then-s-i c = let stands : foldl byte_step c.steps-c.result (drop c.loop-i.i c.args.s.now) ≡ foldl byte_step 0xFFFFFFFF c.args.s.now = rw c.steps-c.ensures c.loop-i.invariant.2 in
+returns-then-s-i c =
+    -- the state after the block
+    let stands : foldl byte_step c.steps-c.result (drop c.loop-i.i c.args.s.now) ≡ foldl byte_step 0xFFFFFFFF c.args.s.now = rw c.steps-c.ensures c.loop-i.invariant.2 in
     all_read _ _ _ c.if-s-i.true (stands)
 
 pub loop-i-preserved : goal.loop-i-preserved

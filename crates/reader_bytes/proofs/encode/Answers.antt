@@ -6,6 +6,8 @@ use Rattle.reader_bytes.proofs.BytesLaws.{encode-copied}
 use Rattle.reader_bytes.proofs.encode.Goals as goal
 
 pub returns : goal.returns
-returns c = let held-length : length c.args.r.held ≡ held_length = omega arith in
+returns c =
+    -- the held bytes are as many as their array has
+    let held-length : length c.args.r.held ≡ held_length = omega arith in
     rw (c.copy.ensures, c.put.ensures)
     (encode-copied c.words_of.result c.args.r c.args.bytes.now c.requires held-length c.words_of.ensures)

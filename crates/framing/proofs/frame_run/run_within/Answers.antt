@@ -15,7 +15,9 @@ one_less : (f : Format) (s : List ℕ) (most more at : ℕ) → 0 < more → mor
 one_less f s most more at h l w = let e : most - more + 1 ≡ most - (more - 1) = omega arith in subst (Led f s most at) e w
 
 pub overflow_add-at : goal.overflow_add-at
-overflow_add-at c = let told : let a = c.args in front (format_of a.format) (drop c.loop-more.at (take a.end a.s.now)) ≡ c.front_within.result = let a = c.args in
+overflow_add-at c =
+    -- what `front_within` said of the rest
+    let told : let a = c.args in front (format_of a.format) (drop c.loop-more.at (take a.end a.s.now)) ≡ c.front_within.result = let a = c.args in
     ap (front (format_of a.format)) (sym (tail_within a.s.now c.loop-more.at a.end)) ∙ sym c.front_within.ensures in
     omega (arith, frame-ends _ _ _ _ _ c.loop-more.invariant.1 c.in-Frame.n (told ∙ c.in-Frame.is), c.requires, length-take-le c.args.end c.args.s.now c.requires)
 

@@ -19,7 +19,9 @@ returns-then-line-ne36 c = sym (scan-bad nmea 0 0 (take c.args.end c.args.s.now)
 
 pub returns-then-line-k : goal.returns-then-line-k
 unfolding scan next nmea_next
-returns-then-line-k c = let reach : (j : ℕ) → 0 < j → j ≤ c.body-k.result → let a = c.args in j ≤ a.end → Reached j (take a.end a.s.now) = λ j h l m. reached-within c.args.end j c.body-k.ensures.0 c.requires h l m in
+returns-then-line-k c =
+    -- the body reaches so far in the first bytes
+    let reach : (j : ℕ) → 0 < j → j ≤ c.body-k.result → let a = c.args in j ≤ a.end → Reached j (take a.end a.s.now) = λ j h l m. reached-within c.args.end j c.body-k.ensures.0 c.requires h l m in
     let n = length-take-le c.args.end c.args.s.now c.requires in
     let s = take c.args.end c.args.s.now in
     c.unended.ensures ∙ sym (reached-all s c.if-line-ne36.false (reach (length s) (omega arith) c.if-line-k.true (omega arith)))
@@ -29,7 +31,7 @@ unfolding scan next nmea_next
 returns-then-k-gt77 c = let reach : (j : ℕ) → 0 < j → j ≤ c.body-k.result → let a = c.args in j ≤ a.end → Reached j (take a.end a.s.now) = λ j h l m. reached-within c.args.end j c.body-k.ensures.0 c.requires h l m in
     let n = length-take-le c.args.end c.args.s.now c.requires in
     let k = c.body-k.result in
-    sym (reached-long (take c.args.end c.args.s.now) c.if-line-ne36.false k (reach k (omega arith) (omega arith) (omega (arith, c.if-line-k.false))) c.if-k-gt77.true)
+    sym (reached-long (take c.args.end c.args.s.now) c.if-line-ne36.false k (reach k (omega arith) (omega arith) (omega (arith, c.if-line-k.false))) (omega arith))
 
 pub returns-then-k-gt1 : goal.returns-then-k-gt1
 unfolding scan next nmea_next

@@ -11,7 +11,9 @@ use Rattle.reader.proofs.InPlaceLaws.{used, fits, advances}
 use Rattle.reader.proofs.in_place.accept.Goals as goal
 
 pub overflow_add-used : goal.overflow_add-used
-overflow_add-used c = let came : c.read_line_after_noise-w.result.framed + c.read_line_after_noise-w.result.skipped ≤ length c.args.line.now = used ongoing c.args.n _ _ _ refl c.read_line_after_noise-w.ensures.0 in
+overflow_add-used c =
+    -- how far the reading came
+    let came : c.read_line_after_noise-w.result.framed + c.read_line_after_noise-w.result.skipped ≤ length c.args.line.now = used ongoing c.args.n _ _ _ refl c.read_line_after_noise-w.ensures.0 in
     let u = came in omega arith
 
 pub slice_bounds-hold-count : goal.slice_bounds-hold-count
@@ -23,7 +25,9 @@ slice_bounds-hold-start c = let came : c.read_line_after_noise-w.result.framed +
     came
 
 pub hold-requires : goal.hold-requires
-hold-requires c = let fit : Fits c.args.n c.read_line_after_noise-w.result (length c.args.line.now - (c.read_line_after_noise-w.result.framed + c.read_line_after_noise-w.result.skipped)) = fits ongoing _ _ _ _ refl c.read_line_after_noise-w.ensures.0 c.requires.2 in
+hold-requires c =
+    -- its counts fit
+    let fit : Fits c.args.n c.read_line_after_noise-w.result (length c.args.line.now - (c.read_line_after_noise-w.result.framed + c.read_line_after_noise-w.result.skipped)) = fits ongoing _ _ _ _ refl c.read_line_after_noise-w.ensures.0 c.requires.2 in
     (omega (arith, (fit).held, tail-length c.args.line.now (c.read_line_after_noise-w.result.framed + c.read_line_after_noise-w.result.skipped)), c.requires.0)
 
 pub overflow_sub-line : goal.overflow_sub-line

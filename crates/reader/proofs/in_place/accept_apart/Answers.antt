@@ -20,19 +20,24 @@ use Rattle.reader.proofs.in_place.accept_apart.Goals as goal
 
 pub join-k-requires : goal.join-k-requires
 join-k-requires c = let start : List ℕ = take c.args.n.pending c.args.held.now in
+    -- the pending bytes
     let part : length (start) ≡ c.args.n.pending = length-take-le _ _ (omega (arith, c.requires.all, c.requires.pending)) in
+    -- at most so many are joined to them
     let bound : c.pending_bound-most.result ≤ held_length = rw c.pending_bound-most.ensures (bound-most (format_of c.args.n.format)) in
     omega (arith, part, c.requires.pending, c.if-bytes-most.true, bound)
 
 pub overflow_add-used : goal.overflow_add-used
 overflow_add-used c = let start : List ℕ = take c.args.n.pending c.args.held.now in
     let part : length (start) ≡ c.args.n.pending = length-take-le _ _ (omega (arith, c.requires.all, c.requires.pending)) in
+    -- they and the piece's
     let all : length (start ++ c.args.bytes.now) ≡ c.args.n.pending + length c.args.bytes.now = length-append (start) c.args.bytes.now ∙ ap (λ (k : ℕ). k + length c.args.bytes.now) (part) in
+    -- how long the line of a short piece is
     let counted : c.join-k.result ≡ c.args.n.pending + length c.args.bytes.now = c.join-k.ensures.0 ∙ ap (λ (k : ℕ). k + length c.args.bytes.now) (part) in
     let short-line : List ℕ = take c.join-k.result c.join-k.new.work in
     let line-length : length (short-line) ≡ c.join-k.result = ap length c.join-k.ensures.1 ∙ all ∙ sym (counted) in
     let short-came : c.read_line-w.result.framed + c.read_line-w.result.skipped ≤ c.join-k.result = used ongoing c.args.n _ _ _ (line-length) c.read_line-w.ensures.0 in
     let bound : c.pending_bound-most.result ≤ held_length = rw c.pending_bound-most.ensures (bound-most (format_of c.args.n.format)) in
+    -- it fits the work area
     let within : c.join-k.result ≤ held_length + held_length = omega (arith, counted, c.requires.pending, c.if-bytes-most.true, bound) in
     omega (arith, short-came, within)
 
@@ -111,6 +116,7 @@ pub join-k-requires-2 : goal.join-k-requires-2
 join-k-requires-2 c = let start : List ℕ = take c.args.n.pending c.args.held.now in
     let part : length (start) ≡ c.args.n.pending = length-take-le _ _ (omega (arith, c.requires.all, c.requires.pending)) in
     let bound : c.pending_bound-most.result ≤ held_length = rw c.pending_bound-most.ensures (bound-most (format_of c.args.n.format)) in
+    -- that of a longer one
     let short : c.pending_bound-most.result ≤ length c.args.bytes.now = omega (arith, c.if-bytes-most.false) in
     omega (arith, part, c.requires.pending, length-take-le c.pending_bound-most.result c.args.bytes.now (short), bound)
 
@@ -120,6 +126,7 @@ overflow_add-used-2 c = let start : List ℕ = take c.args.n.pending c.args.held
     let all : length (start ++ c.args.bytes.now) ≡ c.args.n.pending + length c.args.bytes.now = length-append (start) c.args.bytes.now ∙ ap (λ (k : ℕ). k + length c.args.bytes.now) (part) in
     let short : c.pending_bound-most.result ≤ length c.args.bytes.now = omega (arith, c.if-bytes-most.false) in
     let line : List ℕ = take c.join-k-2.result c.join-k-2.new.work in
+    -- the reading of the pending bytes and the piece
     let both : (c.read_line_joined-w.result ≡ line_counts_of (read ongoing (format_of c.args.n.format) (start ++ c.args.bytes.now)))
     × (c.read_line_joined-w.new.out ≡ put (joined (read ongoing (format_of c.args.n.format) (start ++ c.args.bytes.now)).events) c.args.out.now) = rw (joined-start (start) c.args.bytes.now (line) _ _ (part) c.join-k-2.ensures.1 (short)) at c.read_line_joined-w.ensures in
     let came : c.read_line_joined-w.result.framed + c.read_line_joined-w.result.skipped ≤ c.args.n.pending + length c.args.bytes.now = used ongoing c.args.n _ _ _ (all) (both).0 in

@@ -15,12 +15,15 @@ use Rattle.reader.proofs.InPlaceLaws.{used, fits, advances}
 use Rattle.reader.proofs.in_place.accept_in_place.Goals as goal
 
 pub read_line_unless_start-w-requires : goal.read_line_unless_start-w-requires
-read_line_unless_start-w-requires c = let line : take (c.args.n.pending + length c.args.bytes.now) c.copy.new.out ≡ take c.args.n.pending c.args.held.now ++ c.args.bytes.now = let a = c.args in
+read_line_unless_start-w-requires c =
+    -- the line: the pending bytes and the piece's
+    let line : take (c.args.n.pending + length c.args.bytes.now) c.copy.new.out ≡ take c.args.n.pending c.args.held.now ++ c.args.bytes.now = let a = c.args in
     ap (take (a.n.pending + length a.bytes.now)) c.copy.ensures ∙ appended a.held.now a.bytes.now a.n.pending (omega (arith, c.requires.0.all, c.requires.1)) in
     (omega (arith, c.copy.auto.out, c.requires.0.all, c.requires.1), c.requires.0.large-enough, λ e. rw (line) (c.requires.2 e))
 
 pub overflow_add-used : goal.overflow_add-used
 overflow_add-used c = let line-length : length (take (c.args.n.pending + length c.args.bytes.now) c.copy.new.out) ≡ c.args.n.pending + length c.args.bytes.now = length-take-le _ _ (omega (arith, c.copy.auto.out, c.requires.0.all, c.requires.1)) in
+    -- how far the reading came, and its counts fit
     let came : c.read_line_unless_start-w.result.framed + c.read_line_unless_start-w.result.skipped ≤ c.args.n.pending + length c.args.bytes.now = used ongoing c.args.n _ _ _ (line-length) c.read_line_unless_start-w.ensures.0 in
     omega (arith, came, c.requires.1)
 

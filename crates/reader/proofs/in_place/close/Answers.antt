@@ -20,13 +20,16 @@ pub returns-then-answer-ne0 : goal.returns-then-answer-ne0
 returns-then-answer-ne0 c = place-refused _ _ c.if-held-ne-HELD.false _ _ _ c.refused-then-answer-ne0.ensures (c.refusal-answer.ensures ∙ judged c.args.n c.args.held.now _ _ _ c.if-held-ne-HELD.false c.waits-waits.ensures) c.if-answer-ne0.true
 
 pub slice_bounds-read_closing-end : goal.slice_bounds-read_closing-end
-slice_bounds-read_closing-end c = let done : refusal (state_of c.args.n c.args.held.now) 0 (length c.args.out.now) ≡ 0 = sym (c.refusal-answer.ensures ∙ judged c.args.n c.args.held.now _ _ _ c.if-held-ne-HELD.false c.waits-waits.ensures) ∙ c.if-answer-ne0.false in
+slice_bounds-read_closing-end c =
+    -- the call is accepted
+    let done : refusal (state_of c.args.n c.args.held.now) 0 (length c.args.out.now) ≡ 0 = sym (c.refusal-answer.ensures ∙ judged c.args.n c.args.held.now _ _ _ c.if-held-ne-HELD.false c.waits-waits.ensures) ∙ c.if-answer-ne0.false in
     let agreed : Accepted c.args.n c.args.held.now [] c.args.out.now = fit-piece _ _ c.if-held-ne-HELD.false [] _ (done) in
     omega (arith, (agreed).all, (agreed).pending)
 
 pub slice_bounds-read_closing-end-2 : goal.slice_bounds-read_closing-end-2
 slice_bounds-read_closing-end-2 c = let done : refusal (state_of c.args.n c.args.held.now) 0 (length c.args.out.now) ≡ 0 = sym (c.refusal-answer.ensures ∙ judged c.args.n c.args.held.now _ _ _ c.if-held-ne-HELD.false c.waits-waits.ensures) ∙ c.if-answer-ne0.false in
     let agreed : Accepted c.args.n c.args.held.now [] c.args.out.now = fit-piece _ _ c.if-held-ne-HELD.false [] _ (done) in
+    -- the pending bytes
     let part : length (take c.args.n.pending c.args.held.now) ≡ c.args.n.pending = length-take-le _ _ (omega (arith, (agreed).all, (agreed).pending)) in
     sym (part)
 
@@ -34,6 +37,7 @@ pub overflow_add-used : goal.overflow_add-used
 overflow_add-used c = let done : refusal (state_of c.args.n c.args.held.now) 0 (length c.args.out.now) ≡ 0 = sym (c.refusal-answer.ensures ∙ judged c.args.n c.args.held.now _ _ _ c.if-held-ne-HELD.false c.waits-waits.ensures) ∙ c.if-answer-ne0.false in
     let agreed : Accepted c.args.n c.args.held.now [] c.args.out.now = fit-piece _ _ c.if-held-ne-HELD.false [] _ (done) in
     let part : length (take c.args.n.pending c.args.held.now) ≡ c.args.n.pending = length-take-le _ _ (omega (arith, (agreed).all, (agreed).pending)) in
+    -- how far the reading came, and its counts fit
     let came : c.read_closing-w.result.framed + c.read_closing-w.result.skipped ≤ c.args.n.pending = used closing c.args.n _ _ _ (part) c.read_closing-w.ensures.0 in
     omega (arith, came, (agreed).pending)
 

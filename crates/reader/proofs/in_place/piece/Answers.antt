@@ -17,7 +17,9 @@ pub returns-then-answer-ne0 : goal.returns-then-answer-ne0
 returns-then-answer-ne0 c = place-refused _ _ c.if-held-ne-HELD.false _ _ _ c.refused-then-answer-ne0.ensures (c.refusal-answer.ensures ∙ judged c.args.n c.args.held.now _ _ _ c.if-held-ne-HELD.false c.start_of-start.ensures.0) c.if-answer-ne0.true
 
 pub returns-then-pending-eq0 : goal.returns-then-pending-eq0
-returns-then-pending-eq0 c = let done : refusal (state_of c.args.n c.args.held.now) (length c.args.bytes.now) (length c.args.out.now) ≡ 0 = sym (c.refusal-answer.ensures ∙ judged c.args.n c.args.held.now _ _ _ c.if-held-ne-HELD.false c.start_of-start.ensures.0) ∙ c.if-answer-ne0.false in
+returns-then-pending-eq0 c =
+    -- the call is accepted
+    let done : refusal (state_of c.args.n c.args.held.now) (length c.args.bytes.now) (length c.args.out.now) ≡ 0 = sym (c.refusal-answer.ensures ∙ judged c.args.n c.args.held.now _ _ _ c.if-held-ne-HELD.false c.start_of-start.ensures.0) ∙ c.if-answer-ne0.false in
     let a = c.args in
     c.accept.ensures ∙ place-piece _ _ c.if-held-ne-HELD.false _ _ _ (done) (ap (λ (k : ℕ). take k a.held.now ++ a.bytes.now) c.if-pending-eq0.true)
 

@@ -21,7 +21,10 @@ pub returns-then-n-eq0 : goal.returns-then-n-eq0
 returns-then-n-eq0 t c = read-closing-skip _ _ _ _ _ (omega (arith, c.if-s-eq0.false)) (sym c.if-n-eq0.true ∙ c.frame_length-n.ensures) c.read_closing-w.ensures
 
 pub slice_bounds-copy-end : goal.slice_bounds-copy-end
-slice_bounds-copy-end t c = let stands : front (format_of c.args.format) c.args.s.now ≡ Frame c.frame_length-n.result = length-frame _ _ _ c.frame_length-n.ensures c.if-n-eq0.false in
+slice_bounds-copy-end t c =
+    -- a frame stands at the start
+    let stands : front (format_of c.args.format) c.args.s.now ≡ Frame c.frame_length-n.result = length-frame _ _ _ c.frame_length-n.ensures c.if-n-eq0.false in
+    -- and ends in it
     let ends : (0 < c.frame_length-n.result) × (c.frame_length-n.result ≤ length c.args.s.now) = frame-inside _ _ _ stands in
     sym (length-take-le _ _ ends.1)
 

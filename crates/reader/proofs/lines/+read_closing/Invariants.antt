@@ -1,3 +1,4 @@
+-- The measure is the slice's length.
 use Rattle.std.proofs.Common.{length}
 use Rattle.reader.proofs.lines.+read_closing.Given as goal
 

@@ -22,6 +22,7 @@ slice_bounds-read_line-start c = let inside : c.find_start-noise.result ≤ leng
 
 pub overflow_add-result : goal.overflow_add-result
 overflow_add-result c = let inside : c.find_start-noise.result ≤ length c.args.line.now = rw c.find_start-noise.ensures (find-start-most (format_of c.args.format) c.args.line.now) in
+    -- the reading of what follows the noise
     let behind : ReadsLine (format_of c.args.format) (drop c.find_start-noise.result c.args.line.now) c.args.out.now c.read_line-w.result c.read_line-w.new.out = rw (tail-part c.args.line.now c.find_start-noise.result) at c.read_line-w.ensures in
     let l = c.args.line.now in
     omega (arith, inside, (counts-most (format_of c.args.format) (drop c.find_start-noise.result l) c.read_line-w.result (behind).0).0, length-drop c.find_start-noise.result l, c.requires)

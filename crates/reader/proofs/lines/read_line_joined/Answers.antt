@@ -12,7 +12,9 @@ overflow_add-used c = let short : c.read_line-first.result.framed + c.read_line-
     omega (arith, short)
 
 pub overflow_sub-used : goal.overflow_sub-used
-overflow_sub-used c = let past : c.args.pending ≤ c.read_line-first.result.framed + c.read_line-first.result.skipped = rw c.read_line-first.ensures.0 (used-held _ _ _ _ _ c.requires) in
+overflow_sub-used c =
+    -- how far the first reading came
+    let past : c.args.pending ≤ c.read_line-first.result.framed + c.read_line-first.result.skipped = rw c.read_line-first.ensures.0 (used-held _ _ _ _ _ c.requires) in
     past
 
 pub slice_bounds-read_line-count : goal.slice_bounds-read_line-count
@@ -34,6 +36,7 @@ slice_bounds-read_line-start-2 c = let short : c.read_line-first.result.framed +
 pub overflow_add-result : goal.overflow_add-result
 overflow_add-result c = let past : c.args.pending ≤ c.read_line-first.result.framed + c.read_line-first.result.skipped = rw c.read_line-first.ensures.0 (used-held _ _ _ _ _ c.requires) in
     let short : c.read_line-first.result.framed + c.read_line-first.result.skipped ≤ c.args.pending + length c.args.bytes.now = rw c.read_line-first.ensures.0 (used-short _ _ _ _ _ c.requires) in
+    -- and how far the second
     let rest : (c.read_line-second.result.framed + c.read_line-second.result.skipped ≤ length c.args.bytes.now - (c.read_line-first.result.framed + c.read_line-first.result.skipped - c.args.pending))
     × (c.read_line-second.result.frames ≤ c.read_line-second.result.framed) = let m = counts-most _ _ _ c.read_line-second.ensures.0 in
     (omega (arith, m.0, tail-length c.args.bytes.now (c.read_line-first.result.framed + c.read_line-first.result.skipped - c.args.pending)), m.1) in
@@ -53,6 +56,7 @@ overflow_add-result-3 c = let past : c.args.pending ≤ c.read_line-first.result
     let rest : (c.read_line-second.result.framed + c.read_line-second.result.skipped ≤ length c.args.bytes.now - (c.read_line-first.result.framed + c.read_line-first.result.skipped - c.args.pending))
     × (c.read_line-second.result.frames ≤ c.read_line-second.result.framed) = let m = counts-most _ _ _ c.read_line-second.ensures.0 in
     (omega (arith, m.0, tail-length c.args.bytes.now (c.read_line-first.result.framed + c.read_line-first.result.skipped - c.args.pending)), m.1) in
+    -- the frames are fewer
     let few : Fits w64 (c.read_line-first.result.frames + c.read_line-second.result.frames) = let m = counts-most _ _ _ c.read_line-first.ensures.0 in
     omega (arith, m.1, (rest).1, short, past, (rest).0) in
     few
