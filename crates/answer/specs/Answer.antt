@@ -1,5 +1,5 @@
 -- What a call answers: document 01's number, and a value (docs/FORMATS.md, "Refusal numbers").
-use Rattle.std.specs.Prelude.{ℕ, Bool, true, false}
+use Rattle.std.specs.Prelude.{ℕ, Bool, true, false, Result, Ok, Err}
 use Rattle.answer.specs.declared.Refusal.{Refusal}
 use Rattle.answer.specs.declared.Refusal.TheVariants.{PieceTooLong, Closed, LineTooLong, PieceOutputTooSmall, NotWritable, OutputTooSmall, NotOneFrame, OtherMessage, OutOfForm, BrokenToc, BrokenReader}
 
@@ -33,3 +33,13 @@ refused zeros n = record { number = n; value = zeros }
 abbrev pub unless : {A : Type 0} → A → Bool → ℕ → Answer A → Answer A
 unless zeros true n a = a
 unless zeros false n a = refused zeros n
+
+-- what a Rattle function returns, as an answer: `value` gives the value of an `Ok`
+abbrev pub answer_of : {R A : Type 0} → A → (R → A) → Result R Refusal → Answer A
+answer_of zeros value (Ok x) = given (value x)
+answer_of zeros value (Err r) = refused zeros (refusal_number r)
+
+-- the number alone, where there is no value
+abbrev pub outcome_number : {R : Type 0} → Result R Refusal → ℕ
+outcome_number (Ok x) = 0
+outcome_number (Err r) = refusal_number r

@@ -4,8 +4,11 @@
 ghost use Rattle.std.specs.Prelude.{◌≡◌};
 ghost use Rattle.answer.specs.Answer.{refusal_number};
 
+use std::error::Error;
+use std::fmt;
+
 // Why a call is refused. The cases are in the order of their numbers, 1 to 11.
-#[derive(Clone, Copy)]
+#[derive(Clone, Copy, Debug, PartialEq, Eq)]
 pub enum Refusal {
     // A piece longer than the longest.
     PieceTooLong,
@@ -32,20 +35,30 @@ pub enum Refusal {
 }
 
 // Document 01's number of a refusal.
-pub fn refusal_number(r: Refusal) -> u32
-    ensures { result ≡ refusal_number r }
-{
-    match r {
-        Refusal::PieceTooLong => 1,
-        Refusal::Closed => 2,
-        Refusal::LineTooLong => 3,
-        Refusal::PieceOutputTooSmall => 4,
-        Refusal::NotWritable => 5,
-        Refusal::OutputTooSmall => 6,
-        Refusal::NotOneFrame => 7,
-        Refusal::OtherMessage => 8,
-        Refusal::OutOfForm => 9,
-        Refusal::BrokenToc => 10,
-        Refusal::BrokenReader => 11,
+impl From<Refusal> for u32 {
+    ghost from_gives = { λ r n. n ≡ refusal_number r };
+
+    fn from(refusal: Refusal) -> u32 {
+        match refusal {
+            Refusal::PieceTooLong => 1,
+            Refusal::Closed => 2,
+            Refusal::LineTooLong => 3,
+            Refusal::PieceOutputTooSmall => 4,
+            Refusal::NotWritable => 5,
+            Refusal::OutputTooSmall => 6,
+            Refusal::NotOneFrame => 7,
+            Refusal::OtherMessage => 8,
+            Refusal::OutOfForm => 9,
+            Refusal::BrokenToc => 10,
+            Refusal::BrokenReader => 11,
+        }
     }
 }
+
+impl fmt::Display for Refusal {
+    fn fmt<W: fmt::Write>(&self, f: &mut fmt::Formatter<W>) -> fmt::Result {
+        write!(f, "refused {}", u32::from(*self))
+    }
+}
+
+impl Error for Refusal {}

@@ -1,16 +1,11 @@
 -- The table of contents of a bench file (docs/FORMATS.md, "Bench file"): one byte n, and n entries of format, port and
 -- length. The captures follow it.
-use Rattle.std.specs.Prelude.{ℕ, zero, suc, ◌+◌, ◌*◌, Bool, true, ◌&&◌, List, ltb, leb, eqb, length, get_or}
+use Rattle.std.specs.Prelude.{ℕ, zero, suc, ◌+◌, ◌*◌, Bool, true, ◌&&◌, List, Result, ltb, leb, eqb, length, get_or}
 use Rattle.numbers.specs.Low.{low}
 use Rattle.framing.specs.Format.{known, format_of}
-use Rattle.answer.specs.Answer.{Answer, given, refused, unless, refusal_number}
-use Rattle.benchfile.specs.declared.LengthResult.{LengthResult}
-use Rattle.benchfile.specs.declared.LengthResult.TheVariants as length_result
-use Rattle.benchfile.specs.declared.CountResult.{CountResult}
-use Rattle.benchfile.specs.declared.CountResult.TheVariants as count
+use Rattle.answer.specs.declared.Refusal.{Refusal}
+use Rattle.answer.specs.Answer.{Answer, given, unless, answer_of}
 use Rattle.benchfile.specs.declared.Entry.{Entry}
-use Rattle.benchfile.specs.declared.EntryResult.{EntryResult}
-use Rattle.benchfile.specs.declared.EntryResult.TheVariants as entry
 
 -- ---- what is in the table
 
@@ -39,10 +34,14 @@ most_entries = 16
 abbrev pub longest_toc : ℕ
 longest_toc = toc_length most_entries
 
+-- whether the format of entry i is known
+abbrev pub known_at : List ℕ → ℕ → Bool
+known_at s i = known (format_of (format_at s i))
+
 -- every one of the first k entries has a known format
 unfoldable pub all_known : List ℕ → ℕ → Bool
 all_known s zero = true
-all_known s (suc k) = all_known s k && known (format_of (format_at s k))
+all_known s (suc k) = all_known s k && known_at s k
 
 -- the lengths of the first k entries, added up
 unfoldable pub total_length : List ℕ → ℕ → ℕ
@@ -73,17 +72,15 @@ is_whole_file s len = is_toc s && eqb (file_length s) len
 
 -- ---- what the functions answer
 
-abbrev pub length_answer : LengthResult → Answer ℕ
-length_answer (length_result.Read n) = given n
-length_answer (length_result.Refused r) = refused 0 (refusal_number r)
+abbrev pub length_answer : Result ℕ Refusal → Answer ℕ
+length_answer = answer_of 0 (λ n. n)
 
 -- the length that the table of contents gives to the file
 unfoldable pub file_length_of : List ℕ → Answer ℕ
 file_length_of s = unless 0 (is_toc s) 10 (given (file_length s))
 
-abbrev pub count_answer : CountResult → Answer ℕ
-count_answer (count.Read n) = given n
-count_answer (count.Refused r) = refused 0 (refusal_number r)
+abbrev pub count_answer : Result ℕ Refusal → Answer ℕ
+count_answer = answer_of 0 (λ n. n)
 
 -- the number of entries
 unfoldable pub entry_count_of : List ℕ → ℕ → Answer ℕ
@@ -92,9 +89,8 @@ entry_count_of s len = unless 0 (is_whole_file s len) 10 (given (entries s))
 abbrev pub no_entry : Entry
 no_entry = record { format = 0; port = 0; length = 0; start = 0 }
 
-abbrev pub entry_answer : EntryResult → Answer Entry
-entry_answer (entry.Read e) = given e
-entry_answer (entry.Refused r) = refused no_entry (refusal_number r)
+abbrev pub entry_answer : Result Entry Refusal → Answer Entry
+entry_answer = answer_of no_entry (λ e. e)
 
 unfoldable pub entry_at : List ℕ → ℕ → Entry
 entry_at s i = record { format = format_at s i; port = port_at s i; length = length_at s i; start = entry_start s i }

@@ -1,11 +1,14 @@
 // The text of a sheet: five lines, each a label and a number.
-ghost use Rattle.std.specs.Prelude.{◌≡◌, cond, ◌+◌, ◌≤◌, leb, length, take};
+ghost use Rattle.std.specs.Prelude.{◌≡◌, ◌≤◌, ◌++◌, cond, leb, length, take, Some, None};
 ghost use Rattle.buffer.specs.Buffer.{copied};
-ghost use Rattle.benchfile.specs.Sheet.{sheet_line, sheet_text};
+ghost use Rattle.benchfile.specs.Sheet.{sheet_line, sheet_text, longest_sheet};
+
+use buffer::Text;
 
 // The five numbers of a sheet.
-#[derive(Clone, Copy)]
+#[derive(Clone, Copy, Debug, PartialEq, Eq)]
 pub struct Sheet {
+    // Kept: a number: it is printed as a reader has it.
     pub format: u32,
     pub frames: u32,
     pub framed: u32,
@@ -16,44 +19,34 @@ pub struct Sheet {
 // The longest sheet: labels of 32 letters, five spaces and line ends, and five numbers of ten digits.
 pub const LONGEST_SHEET: usize = 92;
 
-// Puts a line, and answers the place behind it.
-fn put_line(label: &[u8], n: u32, text: &mut [u8], at: usize) -> usize
-    requires { at + length (sheet_line label.now n) ≤ length text.old }
-    ensures { (result ≡ at + length (sheet_line label.now n)) × (text.new ≡ copied (sheet_line label.now n) text.old at) }
+// Pushes a line.
+fn push_line<const N: usize>(label: &[u8], n: u32, text: &mut Text<N>)
+    ensures { text.new ≡ take N (text.old ++ sheet_line label.now n) }
 {
-    buffer::copy(label, text, at);
-    let space = at + label.len();
-    buffer::copy(b" ", text, space);
-    let digits = space + 1;
-    let k = decimal::count(n as u64);
-    decimal::put(n as u64, k, text, digits);
-    let end = digits + k;
-    buffer::copy(b"\n", text, end);
-    end + 1
+    text.push(label);
+    text.push(b" ");
+    decimal::push(u64::from(n), text);
+    text.push(b"\n");
 }
 
-// Puts the five lines, and answers their length.
-fn put_sheet(sheet: Sheet, text: &mut [u8]) -> usize
-    requires { length (sheet_text sheet) ≤ length text.old }
-    ensures { (result ≡ length (sheet_text sheet)) × (take result text.new ≡ sheet_text sheet) }
+// Pushes the five lines of a sheet.
+pub fn push_sheet<const N: usize>(sheet: Sheet, text: &mut Text<N>)
+    ensures pushed { text.new ≡ take N (text.old ++ sheet_text sheet) }
+    ensures short { length (sheet_text sheet) ≤ longest_sheet }
 {
-    let frames = put_line(b"format", sheet.format, text, 0);
-    let framed = put_line(b"frames", sheet.frames, text, frames);
-    let skipped = put_line(b"framed", sheet.framed, text, framed);
-    let pending = put_line(b"skipped", sheet.skipped, text, skipped);
-    put_line(b"pending", sheet.pending, text, pending)
+    push_line(b"format", sheet.format, text);
+    push_line(b"frames", sheet.frames, text);
+    push_line(b"framed", sheet.framed, text);
+    push_line(b"skipped", sheet.skipped, text);
+    push_line(b"pending", sheet.pending, text);
 }
 
-// Writes a sheet to the start of a buffer, and answers its length; where it doesn't fit, 0, and nothing is written.
-pub fn write_sheet(sheet: Sheet, out: &mut [u8]) -> usize
-    ensures { (result ≡ cond (leb (length (sheet_text sheet)) (length out.old)) (length (sheet_text sheet)) 0)
-        × (out.new ≡ copied (sheet_text sheet) out.old 0) }
+// Writes a sheet to the start of a buffer, and answers its length; where it doesn't fit, nothing is written.
+pub fn write_sheet(sheet: Sheet, out: &mut [u8]) -> Option<usize>
+    ensures length { result ≡ cond (leb (length (sheet_text sheet)) (length out.old)) (Some (length (sheet_text sheet))) None }
+    ensures after { out.new ≡ copied (sheet_text sheet) out.old 0 }
 {
-    let mut text = [0u8; LONGEST_SHEET];
-    let n = put_sheet(sheet, &mut text);
-    if out.len() < n {
-        return 0;
-    }
-    buffer::copy(&text[..n], out, 0);
-    n
+    let mut text = Text::<LONGEST_SHEET>::new();
+    push_sheet(sheet, &mut text);
+    text.write(out)
 }

@@ -1,2 +1,3 @@
--- Laws of bytes put into a buffer. Assumes nothing.
+-- Laws of bytes put into a buffer, and of text. Assumes nothing.
 pub mod BufferLaws
+pub mod TextLaws

@@ -1,38 +1,25 @@
-// Copies bytes into a caller's buffer.
+// Bytes copied into a caller's buffer, and text made in fixed memory.
 #![tactic(auto)]
 
-ghost use Rattle.std.specs.Prelude.{◌≡◌, ◌+◌, ◌≤◌, leb, length};
-ghost use Rattle.std.proofs.Math.Seq.{paste};
+mod text;
+
+ghost use Rattle.std.specs.Prelude.{◌≡◌, ◌+◌, leb};
 ghost use Rattle.buffer.specs.Buffer.{copied};
+
+pub use text::Text;
 
 // Whether n bytes from a place on fit in a buffer of `size` bytes.
 pub fn fits(n: usize, size: usize, at: usize) -> bool
     ensures { result ≡ leb (at + n) size }
 {
-    if size < at {
-        return false;
-    }
-    n <= size - at
-}
-
-// Copies bytes that fit.
-fn copy_at(bytes: &[u8], out: &mut [u8], at: usize)
-    requires { at + length bytes.now ≤ length out.old }
-    ensures { out.new ≡ paste out.old at bytes.now (length bytes.now) }
-{
-    let mut j = 0;
-    while j < bytes.len() {
-        out[at + j] = bytes[j];
-        j += 1;
-    }
+    at.checked_add(n).is_some_and(|end| end <= size)
 }
 
 // Copies bytes into a buffer from a place on; where they don't fit, nothing is written.
 pub fn copy(bytes: &[u8], out: &mut [u8], at: usize)
     ensures { out.new ≡ copied bytes.now out.old at }
 {
-    if !fits(bytes.len(), out.len(), at) {
-        return;
+    if fits(bytes.len(), out.len(), at) {
+        out[at..at + bytes.len()].copy_from_slice(bytes);
     }
-    copy_at(bytes, out, at);
 }

@@ -18,9 +18,9 @@ module _ (y : ℕ) where
   by-400 : (k : ℕ) → y ≡ 400 * k → y % 400 ≡ 0
   by-400 k e = omega arith
 
-  pub by-16 : y % 25 ≡ 0 → eqb (y % 16) 0 ≡ leap y
+  pub by_16 : y % 25 ≡ 0 → eqb (y % 16) 0 ≡ leap y
   unfolding leap
-  by-16 h = go (ℕ_discrete (y % 16) 0) (ℕ_discrete (y % 100) 0)
+  by_16 h = go (ℕ_discrete (y % 16) 0) (ℕ_discrete (y % 100) 0)
     where
       go : Dec (y % 16 ≡ 0) → Dec (y % 100 ≡ 0) → eqb (y % 16) 0 ≡ leap y
       go (yes p) q = let e : y % 400 ≡ 0 = by-400 (9 * (y / 16) - 14 * (y / 25)) (omega arith) in simp eq-eqb

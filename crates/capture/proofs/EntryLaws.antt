@@ -16,8 +16,7 @@ use Rattle.answer.specs.Answer.{Answer, given, refused, unless, refusal_number}
 use Rattle.answer.proofs.AnswerLaws.{not_done}
 use Rattle.benchfile.specs.Toc.{entries, total_length, entry_start, is_whole_file, no_entry, entry_answer, entry_at, entry_of}
 use Rattle.benchfile.specs.declared.Entry.{Entry}
-use Rattle.benchfile.specs.declared.EntryResult.TheVariants.{Read}
-use Rattle.benchfile.specs.declared.EntryResult.{EntryResult}
+use Rattle.std.specs.Prelude.{Result, Ok}
 use Rattle.capture_values.specs.Values.{numbered}
 use Rattle.capture.specs.Entry.{listed}
 
@@ -45,7 +44,7 @@ module _ (s : List ℕ) (h : (i : ℕ) → Fits w8 (get_or s i 0)) where
       go true true e = start_fits i (ltb-true i (entries s) e)
 
   -- an entry that a call read
-  pub read_fits : (len i : ℕ) {r : EntryResult} {e : Entry} → r ≡ Read e → entry_answer r ≡ entry_of s len i → e.start < 2 ^ 63
+  pub read_fits : (len i : ℕ) {r : Result Entry Refusal} {e : Entry} → r ≡ Ok e → entry_answer r ≡ entry_of s len i → e.start < 2 ^ 63
   read_fits len i p q = subst (λ (n : ℕ). n < 2 ^ 63) (ap (λ (a : Answer Entry). a.value.start) (sym q ∙ ap entry_answer p)) (answer-fits len i)
 
 -- beside a refusal the values are zeros

@@ -10,25 +10,50 @@ ghost use Rattle.mgl_gyro.specs.Gyro.{hundredths_of};
 ghost use Rattle.reader.specs.Calls.{a_piece, a_close};
 ghost use Rattle.reader_bytes.specs.Calls.{lent, serve_lent, fresh_lent};
 ghost use Rattle.capture_values.specs.FieldFunctions.{read_values, ratio_of, elapsed_values, gyro_values};
+ghost use Rattle.answer.specs.Answer.{outcome_number};
 ghost use Rattle.frame_writer.specs.Output.{writing_answer, write_frame};
 ghost use Rattle.nmea_plars_writer.specs.Text.{write_setting};
 ghost use Rattle.capture.specs.Write.{written_answer, header_in, content_in};
 ghost use Rattle.capture.specs.Entry.{entry_in};
 
 use answer::Refusal;
-use benchfile::{CountResult, EntryResult};
 use capture_values::{Ratio, Values};
-use frame_writer::Writing;
-use framing::frame_run;
+use framing::{Format, frame_run};
 use mgl::Header;
 use nmea_plars::Setting;
 
 // Document 01's number, and how many bytes were written.
+// Kept: a number with a value beside it, because this is how C sees an answer (include/capture.h); so also `Values` and `Ratio`, and the
+// numbers of formats, field functions, parameters and sources that the functions below take.
 #[repr(C)]
-#[derive(Clone, Copy)]
+#[derive(Clone, Copy, Debug, PartialEq, Eq)]
 pub struct Written {
     pub number: u32,
     pub length: usize,
+}
+
+impl From<Result<usize, Refusal>> for Written {
+    ghost from_gives = { λ r w. (out : List ℕ) → written_answer w out ≡ writing_answer r out };
+
+    fn from(writing: Result<usize, Refusal>) -> Written {
+        match writing {
+            Ok(length) => Written { number: 0, length },
+            Err(refusal) => Written {
+                number: u32::from(refusal),
+                length: 0,
+            },
+        }
+    }
+}
+
+// The number of what a call answered, 0 where it was done.
+fn number_of(outcome: Result<(), Refusal>) -> u32
+    ensures { result ≡ outcome_number outcome }
+{
+    match outcome {
+        Ok(()) => 0,
+        Err(refusal) => u32::from(refusal),
+    }
 }
 
 // ---- readers
@@ -36,19 +61,19 @@ pub struct Written {
 pub fn capture_fresh(format: u32, reader: &mut [u8]) -> u32
     ensures { lent result reader.new [] ≡ fresh_lent format reader.old }
 {
-    reader_bytes::fresh(format, reader)
+    number_of(reader_bytes::fresh(format, reader))
 }
 
 pub fn capture_piece(reader: &mut [u8], piece: &[u8], out: &mut [u8]) -> u32
     ensures { lent result reader.new out.new ≡ serve_lent reader.old (a_piece piece.now out.old) }
 {
-    reader_bytes::piece(reader, piece, out)
+    number_of(reader_bytes::piece(reader, piece, out))
 }
 
 pub fn capture_close(reader: &mut [u8], out: &mut [u8]) -> u32
     ensures { lent result reader.new out.new ≡ serve_lent reader.old (a_close out.old) }
 {
-    reader_bytes::close(reader, out)
+    number_of(reader_bytes::close(reader, out))
 }
 
 // ---- frames
@@ -56,7 +81,7 @@ pub fn capture_close(reader: &mut [u8], out: &mut [u8]) -> u32
 pub fn capture_frame_len(format: u32, bytes: &[u8]) -> usize
     ensures { result ≡ frame_length (front (format_of format) bytes.now) }
 {
-    frame_run::frame_length(format, bytes)
+    frame_run::frame_length(Format::from(format), bytes).unwrap_or(0)
 }
 
 // ---- field functions
@@ -93,42 +118,28 @@ pub fn capture_write_gyro(rate: i32) -> Values
     capture_values::write_gyro(rate)
 }
 
-fn answer_of(w: Writing) -> Written
-    ensures { (out : List ℕ) → written_answer result out ≡ writing_answer w out }
-{
-    match w {
-        Writing::Written(length) => Written { number: 0, length },
-        Writing::Refused(r) => Written {
-            number: answer::refusal_number(r),
-            length: 0,
-        },
-    }
-}
-
 // The header whose four bytes a number has, low byte first.
+// Kept: no `From` in crate `mgl`: the order of the four bytes is that of include/capture.h, and no plainer there.
 fn header_in(n: u32) -> Header
     ensures { result ≡ header_in n }
 {
-    let b = numbers::low_bytes(n);
+    let [message_type, rate, count, version] = n.to_le_bytes();
     Header {
-        message_type: b[0],
-        rate: b[1],
-        count: b[2],
-        version: b[3],
+        message_type,
+        rate,
+        count,
+        version,
     }
 }
 
 pub fn capture_write(format: u32, header: u32, body: &[u8], out: &mut [u8]) -> Written
     ensures { written_answer result out.new ≡ write_frame (format_of format) (content_in header body.now) out.old }
 {
-    match format {
-        1 => answer_of(frame_writer::write_mgl(header_in(header), body, out)),
-        2 => answer_of(frame_writer::write_onflight(body, out)),
-        3 => answer_of(frame_writer::write_nmea(body, out)),
-        _ => Written {
-            number: answer::refusal_number(Refusal::NotWritable),
-            length: 0,
-        },
+    match Format::from(format) {
+        Format::Mgl => Written::from(frame_writer::write_mgl(header_in(header), body, out)),
+        Format::Onflight => Written::from(frame_writer::write_onflight(body, out)),
+        Format::Nmea => Written::from(frame_writer::write_nmea(body, out)),
+        Format::Unknown => Written::from(Err(Refusal::NotWritable)),
     }
 }
 
@@ -140,7 +151,7 @@ pub fn capture_write_setting(source: u8, parameter: u8, value: u32, out: &mut [u
         parameter,
         value,
     };
-    answer_of(nmea_plars_writer::write_setting(setting, out))
+    Written::from(nmea_plars_writer::write_setting(setting, out))
 }
 
 // ---- bench files
@@ -148,17 +159,14 @@ pub fn capture_write_setting(source: u8, parameter: u8, value: u32, out: &mut [u
 fn entries(first: &[u8], len: u64) -> u8
     ensures { result ≡ (entry_count_of first.now len).value }
 {
-    match benchfile::read_count(first, len) {
-        CountResult::Read(n) => n,
-        CountResult::Refused(_) => 0,
-    }
+    benchfile::read_count(first, len).unwrap_or(0)
 }
 
 pub fn capture_entry(first: &[u8], file_len: u64, item: u32) -> Values
     ensures { result ≡ entry_in first.now file_len item }
 {
     match benchfile::read_entry(first, file_len, item) {
-        EntryResult::Read(e) => capture_values::row(
+        Ok(e) => capture_values::row(
             0,
             entries(first, file_len) as i64,
             e.format as i64,
@@ -167,6 +175,6 @@ pub fn capture_entry(first: &[u8], file_len: u64, item: u32) -> Values
             e.start as i64,
             0,
         ),
-        EntryResult::Refused(r) => capture_values::row(answer::refusal_number(r), 0, 0, 0, 0, 0, 0),
+        Err(refusal) => capture_values::row(u32::from(refusal), 0, 0, 0, 0, 0, 0),
     }
 }

@@ -20,6 +20,7 @@ use capture_values::{Ratio, Values};
 
 // ---- readers
 
+// Kept: numbers for formats, parameters and sources, here and below: the C interface.
 #[unsafe(no_mangle)]
 pub extern "C" fn capture_fresh(format: u32, reader: &mut [u8]) -> u32
     ensures { lent result reader.new [] ≡ fresh_lent format reader.old }

@@ -11,7 +11,8 @@ use lib.ListN.{length}
 use borrow.Author.Tests.{eqb-false, ne_eqb}
 use Rattle.numbers.specs.Low.{low, low_bytes}
 use Rattle.numbers.proofs.LowBytes.{bytes-of-low}
-use Rattle.framing.specs.Format.{mgl, format_of, body_start, body_end}
+use Rattle.framing.specs.declared.Format.TheVariants.{Mgl}
+use Rattle.framing.specs.Format.{format_of, body_start, body_end}
 use Rattle.framing.specs.Meaning.{Bytes}
 use Rattle.content.specs.Body.{is_frame, body_of}
 use Rattle.content.proofs.BodyLaws.{frame-test, place_at, body_at}
@@ -70,7 +71,7 @@ header-again h b = rw (bytes-again h b)
 header_is : (s : List ℕ) (h : Header) → Reads 101 s (header_bytes h) → h ≡ (header_of s).value
 header_is s h e = ap header_shown (sym e ∙ header_row s)
 
-header-bytes : (s : List ℕ) → Bytes s → is_frame mgl s ≡ true → Bytes (header_bytes (header_of s).value)
+header-bytes : (s : List ℕ) → Bytes s → is_frame Mgl s ≡ true → Bytes (header_bytes (header_of s).value)
 unfolding header_of
 header-bytes s b h = rw h (bytes-at s b 4, (bytes-at s b 5, (bytes-at s b 6, (bytes-at s b 7, tt))))
 
@@ -84,7 +85,7 @@ frame-again zero h s b f e = refl
 frame-again (suc zero) h s b f e =
     let i = header_is s h (e refl) in
     let c : header_in (header_number h) ≡ (header_of s).value = rw i (header-again (header_of s).value (header-bytes s b f)) in
-    ap (λ (x : Header). frame_of mgl (record { header = x; body = body_of mgl s })) c
+    ap (λ (x : Header). frame_of Mgl (record { header = x; body = body_of Mgl s })) c
 frame-again (suc (suc zero)) h s b f e = refl
 frame-again (suc (suc (suc zero))) h s b f e = refl
 frame-again (suc (suc (suc (suc n)))) h s b f e = refl
@@ -98,7 +99,7 @@ refuses : (n : ℕ) (s : List ℕ) → is_frame (format_of n) s ≡ true
 unfolding format_of
 refuses zero s h e = absurd (no-frame s h)
 refuses (suc zero) s h e =
-    let k = length (body_of mgl s) % 4 in
+    let k = length (body_of Mgl s) % 4 in
     (λ t. (refl, eqb-false k 0 (sym e ∙ t)), λ p. e ∙ ne_eqb k 0 p.1)
 refuses (suc (suc zero)) s h e = (λ t. absurd (true≢false (sym e ∙ t)), λ p. absurd (omega arith))
 refuses (suc (suc (suc zero))) s h e = (λ t. absurd (true≢false (sym e ∙ t)), λ p. absurd (omega arith))

@@ -5,11 +5,14 @@ use mathlib.Core.Path.{◌≡◌, refl, sym, ap, ◌∙◌}
 use mathlib.Core.Bool.{Bool, true, false, true≢false}
 use mathlib.Core.List.{List, [], ◌∷◌}
 use native.Mathlib.Omega.{arith}
-use Rattle.framing.specs.Format.{Format, unknown, format_of, next}
+use Rattle.framing.specs.declared.Format.{Format}
+use Rattle.framing.specs.declared.Format.TheVariants.{Unknown}
+use Rattle.framing.specs.Format.{format_of, next}
 use Rattle.framing.specs.Shape.{scan, scan_from}
 use Rattle.framing.specs.Frame.{front}
 use Rattle.answer.specs.Answer.{Answer, unless}
-use Rattle.content.specs.Body.{Span, is_frame, place_of}
+use Rattle.content.specs.declared.Span.{Span}
+use Rattle.content.specs.Body.{is_frame, place_of}
 use Rattle.content.proofs.BodyLaws.{frame-test, place_at}
 use Rattle.mgl.specs.Header.{header_of}
 use Rattle.capture_values.specs.declared.Values.{Values}
@@ -18,12 +21,12 @@ use Rattle.capture_values.specs.FieldFunctions.{field_functions, read_values}
 use Rattle.capture_theorems.specs.Trips.{ExportedFramesRead}
 
 -- no bytes are a frame of an unknown format
-pub none-unknown : (s : List ℕ) → is_frame unknown s ≡ false
+pub none-unknown : (s : List ℕ) → is_frame Unknown s ≡ false
 unfolding is_frame front scan scan_from next
 none-unknown [] = refl
 none-unknown (x ∷ s) = refl
 
-pub no-frame : (s : List ℕ) → is_frame unknown s ≡ true → ⊥
+pub no-frame : (s : List ℕ) → is_frame Unknown s ≡ true → ⊥
 no-frame s h = true≢false (sym h ∙ none-unknown s)
 
 -- The first field function of a format gives the place of the body. A number of no format has none, and is refused with

@@ -1,26 +1,28 @@
--- Laws of a row of values: casts to 64 bits change no number, rows of equal values are equal, and where a body is fits.
+-- Laws of a row of values: rows of equal values are equal, what a call returned is its answer, and where a body is fits.
 -- Assumes nothing.
-use Prim.Native.Nat.{ℕ, ◌-◌, ◌^◌, ◌<◌, ◌≤◌}
+use Prim.Native.Nat.{ℕ, ◌+◌, ◌-◌, ◌^◌, ◌<◌, ◌≤◌}
 use mathlib.Core.Bool.{Bool, true, false}
-use mathlib.Core.List.{List, [], ◌∷◌}
+use mathlib.Core.List.{List, [], ◌∷◌, ◌++◌}
 use mathlib.Core.Path.{◌≡◌, refl, sym, ap, subst, ◌∙◌}
 use native.Mathlib.Omega.{arith}
-use lib.Dec.{T, leb}
 use lib.IntN.{ℤ, pos}
-use lib.ListN.{length}
-use borrow.Author.Rules.{sfits_of}
+use lib.ListN.{length, take, drop, replicate}
+use lib.Seq.{length-take-le}
 use mir.Facts.{to_z_pos}
-use mir.Syntax.{Width, w8, w64}
-use mir.Val.{hbits, bool_byte, Fits, SFits, to_z, of_z}
-use Rattle.numbers.proofs.Size.{stays, wider}
-use Rattle.framing.specs.Format.{Format, longest, body_start, body_end}
+use mir.Syntax.{w64}
+use mir.Val.{to_z}
+use Rattle.std.specs.Prelude.{Result, Ok, Err}
+use Rattle.std.proofs.lemmas.List.{drop-replicate, length-replicate, replicate-append-replicate}
+use Rattle.framing.specs.declared.Format.{Format}
+use Rattle.framing.specs.Format.{longest, body_start, body_end}
 use Rattle.framing.proofs.FormatLaws.{lawful, body-fits}
-use Rattle.answer.specs.Answer.{Answer, given, unless}
-use Rattle.content.specs.Body.{Span, nowhere, is_frame, place_answer, place_of}
-use Rattle.content.specs.declared.Place.TheVariants.{At}
-use Rattle.content.specs.declared.Place.{Place}
+use Rattle.answer.specs.declared.Refusal.{Refusal}
+use Rattle.answer.specs.Answer.{Answer, given, unless, refusal_number, answer_of}
+use Rattle.content.specs.declared.Span.{Span}
+use Rattle.content.specs.Body.{nowhere, is_frame, place_of}
 use Rattle.content.proofs.BodyLaws.{frame-short}
-use Rattle.capture_values.specs.Values.{numbered, flag}
+use Rattle.capture_values.specs.Values.{padded_values, numbered, values_of, listed}
+use Rattle.capture_values.proofs.TableLaws.{past}
 use Rattle.capture_values.specs.declared.Values.{Values}
 
 -- ---- casts
@@ -29,35 +31,38 @@ use Rattle.capture_values.specs.declared.Values.{Values}
 pub unsigned : {n : ℕ} → n < 2 ^ 63 → to_z w64 n ≡ pos n
 unsigned h = to_z_pos w64 h
 
--- a byte
-module _ {n : ℕ} (h : Fits w8 n) where
-  pub fits_byte : SFits w64 (pos n)
-  fits_byte = record { sfits = omega arith }
-
-  pub unsigned-byte : to_z w64 n ≡ pos n
-  unsigned-byte = unsigned (omega arith)
-
--- a signed number of any width
-module _ (w : Width) (h : T (leb (hbits w) 63)) {z : ℤ} (f : SFits w z) where
-  pub fits_wider : SFits w64 (to_z w (of_z w z))
-  fits_wider = wider w w64 h f
-
-  pub signed : to_z w64 (of_z w64 (to_z w (of_z w z))) ≡ z
-  signed = stays w64 fits_wider ∙ stays w f
-
-pub ruleset casts = (tt, fits_wider, sfits_of)
-
-pub yes_or_no : (b : Bool) → to_z w64 (bool_byte b) ≡ flag b
-yes_or_no true = refl
-yes_or_no false = refl
-
 -- ---- rows
+
+-- a list, written over the first of the 21 zeros
+pub filled : (n : ℕ) (xs ys : List ℤ) → n ≤ 21 → length ys ≡ length (take n (replicate 21 (pos 0))) → ys ≡ xs → ys ++ drop n (replicate 21 (pos 0)) ≡ padded_values xs
+filled n xs ys h l e =
+    let m : length xs ≡ n = ap length (sym e) ∙ l ∙ length-take-le n (replicate 21 (pos 0)) h in
+    rw (e, drop-replicate n 21 (pos 0), ← m) refl
+
+-- zeros before those zeros
+pub zeros : (m n : ℕ) → n ≤ 21 → numbered m (replicate n (pos 0)) ≡ numbered m []
+zeros m n h =
+    let e : n + (21 - n) ≡ 21 = omega arith in
+    rw (length-replicate n (pos 0), replicate-append-replicate n (21 - n) (pos 0), e) refl
 
 -- a row that a call made, with each value as it was before its cast
 pub same_row : {v : Values} {n : ℕ} {a b c d e f a' b' c' d' e' f' : ℤ}
     → v ≡ numbered n (a ∷ b ∷ c ∷ d ∷ e ∷ f ∷ []) → a ≡ a' → b ≡ b' → c ≡ c' → d ≡ d' → e ≡ e' → f ≡ f'
     → v ≡ numbered n (a' ∷ b' ∷ c' ∷ d' ∷ e' ∷ f' ∷ [])
 same_row {n = n} h pa pb pc pd pe pf = h ∙ (λ j. numbered n (pa j ∷ pb j ∷ pc j ∷ pd j ∷ pe j ∷ pf j ∷ []))
+
+-- ---- what a call returned
+
+-- Listed or as an answer it is the same, where the values beside a refusal are zeros.
+pub as_answer : {R A : Type 0} (f : A → List ℤ) (zeros : A) (value : R → A) (r : Result R Refusal) {v : Values} {a : Answer A}
+    → ((n : ℕ) → numbered n [] ≡ numbered n (f zeros)) → v ≡ listed (λ x. f (value x)) r → answer_of zeros value r ≡ a → v ≡ values_of f a
+as_answer f zeros value r same h e = h ∙ go r ∙ ap (values_of f) e
+  where
+    go : (r : _) → listed (λ x. f (value x)) r ≡ values_of f (answer_of zeros value r)
+    go (Ok x) = refl
+    go (Err q) = same (refusal_number q)
+
+pub ruleset answering = (as_answer, past)
 
 -- ---- where a body is: in a frame, which is short
 
@@ -79,5 +84,5 @@ place-near f s = go (is_frame f s) refl
     go false e = record { start = omega arith; end = omega arith }
 
 -- a place that a call located
-pub near : (f : Format) (s : List ℕ) {r : Place} {a e : ℕ} → r ≡ At a e → place_answer r ≡ place_of f s → Near (record { start = a; end = e })
-near f s p h = subst Near (ap (λ (x : Answer Span). x.value) (sym h ∙ ap place_answer p)) (place-near f s)
+pub near : (f : Format) (s : List ℕ) {x : Span} → given x ≡ place_of f s → Near x
+near f s h = subst Near (ap (λ (x : Answer Span). x.value) (sym h)) (place-near f s)

@@ -1,6 +1,8 @@
 -- The field functions by their numbers, a hundred to a format: the rows of include/capture.h.
 use Rattle.std.specs.Prelude.{ℕ, ◌/◌, ◌%◌, cond, List, [], ◌∷◌, eqb, Float, ℤ, get_or}
-use Rattle.framing.specs.Format.{Format, mgl, onflight, nmea, unknown, format_of}
+use Rattle.framing.specs.declared.Format.{Format}
+use Rattle.framing.specs.declared.Format.TheVariants.{Mgl, Onflight, Nmea, Unknown}
+use Rattle.framing.specs.Format.{format_of}
 use Rattle.answer.specs.Answer.{Answer, refused}
 use Rattle.content.specs.Body.{place_of}
 use Rattle.mgl.specs.Header.{header_of}
@@ -26,16 +28,16 @@ no_function = numbered 7 []
 
 -- the field functions of a format, from 0; the item is the tank's
 unfoldable pub field_functions : Format → ℕ → List ℕ → List Values
-field_functions mgl item s =
-    values_of span_values (place_of mgl s)  -- 100
+field_functions Mgl item s =
+    values_of span_values (place_of Mgl s)  -- 100
     ∷ values_of header_values (header_of s)  -- 101
     ∷ values_of gps_values (gps_of s)  -- 102
     ∷ values_of number_values (tank_count_of s)  -- 103
     ∷ values_of tank_values (tank_of s item)  -- 104
     ∷ values_of clock_list (mgl_clock_of s)  -- 105
     ∷ []
-field_functions onflight item s =
-    values_of span_values (place_of onflight s)  -- 200
+field_functions Onflight item s =
+    values_of span_values (place_of Onflight s)  -- 200
     ∷ values_of status_values (status_of s)  -- 201
     ∷ values_of number_values (set_bits_of s)  -- 202
     ∷ values_of number_values (boot_of s)  -- 203
@@ -50,14 +52,14 @@ field_functions onflight item s =
     ∷ values_of signed_values (altitude_of 56 s)  -- 212, GNSS
     ∷ values_of signed_values (altitude_of 114 s)  -- 213, INS
     ∷ []
-field_functions nmea item s =
-    values_of span_values (place_of nmea s)  -- 300
+field_functions Nmea item s =
+    values_of span_values (place_of Nmea s)  -- 300
     ∷ values_of clock_list (rmc.rmc_clock_of s)  -- 301
     ∷ values_of position_values (rmc.rmc_position_of s)  -- 302
     ∷ values_of number_values (rmc.rmc_status_of s)  -- 303
     ∷ values_of setting_values (setting_of s)  -- 304
     ∷ []
-field_functions unknown item s = []
+field_functions Unknown item s = []
 
 unfoldable pub read_values : ℕ → ℕ → List ℕ → Values
 read_values n item s = get_or (field_functions (format_of (n / 100)) item s) (n % 100) no_function

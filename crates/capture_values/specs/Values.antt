@@ -1,13 +1,15 @@
 -- The values of every kind of answer as signed numbers, in the order of include/capture.h.
-use Rattle.std.specs.Prelude.{ℕ, ◌-◌, Bool, true, false, List, [], ◌∷◌, ◌++◌, ℤ, pos, length, get_or, replicate}
+use Rattle.std.specs.Prelude.{ℕ, ◌-◌, Bool, true, false, List, [], ◌∷◌, ◌++◌, ℤ, pos, length, get_or, replicate, Result}
 use Rattle.calendar.specs.Clocks.{ClockValues}
-use Rattle.answer.specs.Answer.{Answer}
-use Rattle.content.specs.Body.{Span}
-use Rattle.content.specs.Shared.{Position}
+use Rattle.answer.specs.declared.Refusal.{Refusal}
+use Rattle.answer.specs.Answer.{Answer, answer_of}
+use Rattle.content.specs.declared.Span.{Span}
+use Rattle.content.specs.declared.Position.{Position}
 use Rattle.mgl.specs.declared.Header.{Header}
 use Rattle.mgl.specs.declared.gps.Gps.{Gps}
 use Rattle.mgl.specs.declared.fuel.Tank.{Tank}
-use Rattle.onflight_sensors.specs.Sensor.{Pair, Axes}
+use Rattle.onflight_sensors.specs.declared.sensor.Axes.{Axes}
+use Rattle.onflight_sensors.specs.Sensor.{Pair}
 use Rattle.nmea_plars.specs.declared.Setting.{Setting}
 use Rattle.capture_values.specs.declared.Values.{Values}
 
@@ -23,6 +25,10 @@ numbered n xs = record { number = n; values = padded_values xs }
 -- An answer, whose value is listed by f. The value beside a refusal is all zeros, and so are these.
 abbrev pub values_of : {A : Type 0} → (A → List ℤ) → Answer A → Values
 values_of f a = numbered a.number (f a.value)
+
+-- What a call returned, where f lists the value of an `Ok`.
+abbrev pub listed : {R : Type 0} → (R → List ℤ) → Result R Refusal → Values
+listed f r = values_of (λ xs. xs) (answer_of [] f r)
 
 -- ---- the values of each kind, in order
 

@@ -1,34 +1,47 @@
 // The answers that several formats share.
-ghost use Rattle.std.specs.Prelude.{◌≡◌, ◌≤◌};
+ghost use Rattle.std.specs.Prelude.{◌≡◌};
 ghost use Rattle.calendar.specs.Clocks.{field_number, clock_values};
 ghost use Rattle.content.specs.Body.{place_of};
-ghost use Rattle.framing.specs.Format.{format_of};
-ghost use Rattle.content.specs.Shared.{number_answer, clock_answer, position_answer};
-ghost use Rattle.capture_values.specs.Values.{numbered, values_of, number_values, span_values, clock_list, position_values};
+ghost use Rattle.capture_values.specs.Values.{values_of, number_values, signed_values, span_values, clock_list, position_values};
 
-use super::{Values, refused, row};
+use super::{Listed, Values, filled, refused};
 use calendar::{Clock, Field};
-use content::{ClockResult, NumberResult, Place, PositionResult};
+use content::Position;
+use framing::Format;
 
-pub(crate) fn number_values(r: NumberResult) -> Values
-    ensures { result ≡ values_of number_values (number_answer r) }
-{
-    match r {
-        NumberResult::Read(n) => row(0, n as i64, 0, 0, 0, 0, 0),
-        NumberResult::Refused(r) => refused(r),
+impl Listed<1> for u32 {
+    ghost list = { number_values };
+
+    fn list(self) -> [i64; 1] {
+        [i64::from(self)]
     }
 }
 
-// Where the body of a frame is.
-pub(crate) fn place_values(format: u32, s: &[u8]) -> Values
-    ensures { result ≡ values_of span_values (place_of (format_of format) s.now) }
-{
-    match content::locate(format, s) {
-        Place::At { start, end } => row(0, start as i64, end as i64, 0, 0, 0, 0),
-        Place::Refused(r) => refused(r),
+impl Listed<1> for i32 {
+    ghost list = { signed_values };
+
+    fn list(self) -> [i64; 1] {
+        [i64::from(self)]
     }
 }
 
+impl Listed<1> for i16 {
+    ghost list = { signed_values };
+
+    fn list(self) -> [i64; 1] {
+        [i64::from(self)]
+    }
+}
+
+impl Listed<2> for Position {
+    ghost list = { position_values };
+
+    fn list(self) -> [i64; 2] {
+        [i64::from(self.latitude), i64::from(self.longitude)]
+    }
+}
+
+// Kept: no From: it would stand in `calendar`, which has no numbers for its fields, as these are the interface's.
 fn field_number(field: Field) -> u8
     ensures { result ≡ field_number field }
 {
@@ -43,33 +56,25 @@ fn field_number(field: Field) -> u8
 }
 
 // Which answer a clock gives, and its seconds.
-fn clock_row(clock: Clock) -> Values
-    ensures { result ≡ numbered 0 (clock_list (clock_values clock)) }
-{
-    match clock {
-        Clock::Unset => row(0, 0, 0, 0, 0, 0, 0),
-        Clock::Good(seconds) => row(0, 1, seconds, 0, 0, 0, 0),
-        Clock::Wrong(field) => row(0, field_number(field) as i64, 0, 0, 0, 0, 0),
+impl Listed<2> for Clock {
+    ghost list = { λ clock. clock_list (clock_values clock) };
+
+    fn list(self) -> [i64; 2] {
+        match self {
+            Clock::Unset => [0, 0],
+            Clock::Good(seconds) => [1, seconds],
+            Clock::Wrong(field) => [i64::from(field_number(field)), 0],
+        }
     }
 }
 
-pub(crate) fn clock_values(r: ClockResult) -> Values
-    ensures { result ≡ values_of clock_list (clock_answer r) }
+// Where the body of a frame is.
+// Kept: no impl of Listed: a place is two usize, and an i64 holds them only because this place is in a frame, which is short.
+pub(crate) fn place_values(format: Format, s: &[u8]) -> Values
+    ensures { result ≡ values_of span_values (place_of format s.now) }
 {
-    match r {
-        ClockResult::Read(clock) => clock_row(clock),
-        ClockResult::Refused(r) => refused(r),
-    }
-}
-
-pub(crate) fn position_values(r: PositionResult) -> Values
-    ensures { result ≡ values_of position_values (position_answer r) }
-{
-    match r {
-        PositionResult::Read {
-            latitude,
-            longitude,
-        } => row(0, latitude as i64, longitude as i64, 0, 0, 0, 0),
-        PositionResult::Refused(r) => refused(r),
+    match content::locate(format, s) {
+        Ok(place) => filled(0, [place.start as i64, place.end as i64]),
+        Err(r) => refused(r),
     }
 }

@@ -2,17 +2,16 @@
 -- Assumes nothing.
 use Rattle.std.proofs.Common.{◌≡◌, ℕ, zero, suc, ◌+◌, ◌<◌, Bool, true, false, T, eqb, List, [], ◌∷◌, get_or, sym, refl, ap, ◌∙◌, ap₂, le_of_suc-le-suc, not-suc-le-zero, add-zero, add-suc, suc-add, zero-add, eqb→eq}
 use Rattle.checksum.specs.Crc.{bit_steps}
-use Rattle.checksum.specs.Private.{table_from, crc_table}
+use Rattle.checksum.specs.Private.{table_from}
 
-held : (n i k : ℕ) → k < n → get_or (table_from i n) k 0 ≡ bit_steps 8 (i + k)
+held : (n i k m : ℕ) → m < k → get_or (table_from n i k) m 0 ≡ bit_steps n (i + m)
 unfolding table_from
-held zero i k h = absurd (not-suc-le-zero h)
-held (suc n) i zero h = ap (bit_steps 8) (sym (add-zero i))
-held (suc n) i (suc k) h = held n (suc i) k (le_of_suc-le-suc h) ∙ ap (bit_steps 8) (suc-add i k ∙ sym (add-suc i k))
+held n i zero m h = absurd (not-suc-le-zero h)
+held n i (suc k) zero h = ap (bit_steps n) (sym (add-zero i))
+held n i (suc k) (suc m) h = held n (suc i) k m (le_of_suc-le-suc h) ∙ ap (bit_steps n) (suc-add i m ∙ sym (add-suc i m))
 
-pub table-rule : (k : ℕ) → k < 256 → get_or crc_table k 0 ≡ bit_steps 8 k
-unfolding crc_table
-table-rule k h = held 256 0 k h ∙ ap (bit_steps 8) (zero-add k)
+pub table_rule : (n m : ℕ) → m < 256 → get_or (table_from n 0 256) m 0 ≡ bit_steps n m
+table_rule n m h = held n 0 256 m h ∙ ap (bit_steps n) (zero-add m)
 
 -- ---- two lists of numbers are equal where a test that antt computes says so
 
@@ -20,11 +19,11 @@ abbrev pub both : Bool → Bool → Bool
 both true b = b
 both false b = false
 
-both_left : (a b : Bool) → T (both a b) → T a
+pub both_left : (a b : Bool) → T (both a b) → T a
 both_left true b t = tt
 both_left false b t = t
 
-both_right : (a b : Bool) → T (both a b) → T b
+pub both_right : (a b : Bool) → T (both a b) → T b
 both_right true b t = t
 both_right false b t = absurd t
 

@@ -2,11 +2,11 @@
 use Rattle.std.specs.Prelude.{ℕ, zero, suc, List, [], ◌∷◌}
 use Rattle.checksum.specs.Crc.{bit_steps}
 
--- eight bit steps of CRC-32 on i and on the numbers after it, n in all
-unfoldable pub table_from : ℕ → ℕ → List ℕ
-table_from i zero = []
-table_from i (suc n) = bit_steps 8 i ∷ table_from (suc i) n
+-- n bit steps of CRC-32 on i and on the numbers after it, k in all
+unfoldable pub table_from : ℕ → ℕ → ℕ → List ℕ
+table_from n i zero = []
+table_from n i (suc k) = bit_steps n i ∷ table_from n (suc i) k
 
--- those on every byte
+-- eight on every byte
 unfoldable pub crc_table : List ℕ
-crc_table = table_from 0 256
+crc_table = table_from 8 0 256

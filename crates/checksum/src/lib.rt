@@ -8,30 +8,18 @@ ghost use Rattle.checksum.specs.Crc.{bit_steps, crc_of};
 ghost use Rattle.checksum.specs.Private.{crc_table};
 
 // The two sums of Fletcher's checksum, each below 255.
-#[derive(Clone, Copy)]
+#[derive(Clone, Copy, Debug, PartialEq, Eq)]
 pub struct Sums {
     pub plain: u8,
     pub weighted: u8,
 }
 
 // The exclusive or of the bytes.
+#[tactic(auto, unfolding(crate::specs::Xor::xor_of))]
 pub fn xor8(s: &[u8]) -> u8
     ensures { result ≡ xor_of s.now }
 {
-    let mut x: u8 = 0;
-    let mut i = 0;
-    while i < s.len() {
-        x = x ^ s[i];
-        i += 1;
-    }
-    x
-}
-
-// A byte as a wider number, which asks no proof that it fits.
-fn wide(x: u8) -> u32
-    ensures { result ≡ x }
-{
-    x as u32
+    s.iter().fold(0, |x, b| x ^ *b)
 }
 
 // A sum modulo 255, with 255 standing for 0 too: a carry out of the byte counts 1, since 256 is 1 modulo 255. So there is no division,
@@ -39,7 +27,7 @@ fn wide(x: u8) -> u32
 fn add_around(a: u8, x: u8) -> u8
     ensures { result % 255 ≡ (a + x) % 255 }
 {
-    let sum = std::num::wrapping_add_u8(a, x);
+    let sum = a.wrapping_add(x);
     if sum < x { sum + 1 } else { sum }
 }
 
@@ -49,11 +37,9 @@ pub fn fletcher16(s: &[u8]) -> Sums
 {
     let mut a: u8 = 0;
     let mut b: u8 = 0;
-    let mut i = 0;
-    while i < s.len() {
-        a = add_around(a, s[i]);
+    for &x in s {
+        a = add_around(a, x);
         b = add_around(b, a);
-        i += 1;
     }
     Sums {
         plain: a % 255,
@@ -62,7 +48,7 @@ pub fn fletcher16(s: &[u8]) -> Sums
 }
 
 // Eight bit steps of CRC-32 on each byte.
-const TABLE: [u32; 256] = [
+static TABLE: [u32; 256] = [
     0x00000000, 0x77073096, 0xEE0E612C, 0x990951BA, 0x076DC419, 0x706AF48F, 0xE963A535, 0x9E6495A3,
     0x0EDB8832, 0x79DCB8A4, 0xE0D5E91E, 0x97D2D988, 0x09B64C2B, 0x7EB17CBD, 0xE7B82D07, 0x90BF1D91,
     0x1DB71064, 0x6AB020F2, 0xF3B97148, 0x84BE41DE, 0x1ADAD47D, 0x6DDDE4EB, 0xF4D4B551, 0x83D385C7,
@@ -97,32 +83,22 @@ const TABLE: [u32; 256] = [
     0xB3667A2E, 0xC4614AB8, 0x5D681B02, 0x2A6F2B94, 0xB40BBE37, 0xC30C8EA1, 0x5A05DF1B, 0x2D02EF8D,
 ];
 
+// The table is lent, so that a proof has a name for what is in it.
+#[tactic(auto, using(crate::proofs::Table::table_rule), unfolding(crate::specs::Private::crc_table))]
 fn entry(t: &[u32; 256], k: u8) -> u32
     requires { t.now ≡ crc_table }
     ensures { result ≡ bit_steps 8 k }
 {
-    let i = k as usize;
-    t[i]
-}
-
-// CRC-32 by a table that is lent, since a constant array is copied wherever it is used.
-fn crc32_by(t: &[u32; 256], s: &[u8]) -> u32
-    requires { t.now ≡ crc_table }
-    ensures { result ≡ crc_of s.now }
-{
-    let mut c: u32 = 0xFFFF_FFFF;
-    let mut i = 0;
-    while i < s.len() {
-        c = entry(t, ((c ^ wide(s[i])) % 256) as u8) ^ (c >> 8);
-        i += 1;
-    }
-    c ^ 0xFFFF_FFFF
+    t[usize::from(k)]
 }
 
 // CRC-32 of the bytes.
 pub fn crc32(s: &[u8]) -> u32
     ensures { result ≡ crc_of s.now }
 {
-    let t = TABLE;
-    crc32_by(&t, s)
+    let mut c: u32 = 0xFFFF_FFFF;
+    for &b in s {
+        c = entry(&TABLE, ((c ^ u32::from(b)) % 256) as u8) ^ (c >> 8);
+    }
+    c ^ 0xFFFF_FFFF
 }

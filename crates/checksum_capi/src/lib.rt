@@ -19,7 +19,7 @@ pub extern "C" fn checksum_fletcher(s: &[u8]) -> u32
     ensures { result ≡ (fletcher_of s.now).plain + 256 * (fletcher_of s.now).weighted }
 {
     let sums = checksum::fletcher16(s);
-    sums.plain as u32 + 256 * (sums.weighted as u32)
+    u32::from(sums.plain) + 256 * u32::from(sums.weighted)
 }
 
 #[unsafe(no_mangle)]

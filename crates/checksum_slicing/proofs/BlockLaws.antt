@@ -1,18 +1,18 @@
 -- Blocks of eight bytes, and the first block, in front of which zeros may stand. Assumes nothing.
 use mathlib.Core.Path.{◌≡◌, refl, sym, ap, ◌∙◌}
-use mathlib.Core.Bool.{cond}
 use mathlib.Core.List.{List, [], ◌∷◌, foldl}
-use Prim.Native.Nat.{ℕ, zero, suc, ◌+◌, ◌-◌, ◌*◌, ◌/◌, ◌%◌, ◌≤◌, ◌<◌}
-use native.Mathlib.Nat.{add-zero}
+use Prim.Native.Nat.{ℕ, zero, suc, ◌+◌, ◌-◌, ◌*◌, ◌/◌, ◌%◌, ◌^◌, ◌≤◌, ◌<◌}
+use native.Mathlib.Nat.{add-zero, zero-add, suc-add}
 use native.Mathlib.Omega.{arith}
-use lib.Dec.{eqb, lit<}
+use lib.Dec.{lit<}
 use lib.ListN.{length, get_or, drop, drop_of_length-le, replicate, get_or-replicate}
 use lib.Bits.{bit_xor, xor_comm, xor_shifted}
+use Rattle.std.specs.Int.{w64, from_le_bytes}
 use Rattle.checksum.specs.Crc.{bit_step, bit_steps, byte_step, crc_of}
 use Rattle.checksum.proofs.CrcLaws.{bit_steps-xor, bit_steps-shifted}
 use Rattle.checksum.proofs.XorLaws.{xor_assoc}
 use Rattle.checksum.proofs.Fold.{fold_more}
-use Rattle.checksum_slicing.specs.Private.{word_at, after_block, First}
+use Rattle.checksum_slicing.specs.Private.{word_at, after_block, openings, First}
 use Rattle.checksum_slicing.proofs.StepLaws.{bit_steps-add}
 
 abbrev pub Small : List ℕ → Type 0
@@ -67,15 +67,15 @@ eight-more c s i h small =
     ∙ four-more _ s (i + 4) (omega arith) h small
     ∙ four-more c s i refl (omega arith) small
 
+-- a turn of the loop: c is the state so far, x and y are the words at i, and d is the state behind them
+pub block_more : (s : List ℕ) (i c : ℕ) {d x y : ℕ} → Small s → (length s - i) % 8 ≡ 0 → i < length s → x ≡ word_at s i → y ≡ word_at s (i + 4)
+    → d ≡ after_block (bit_xor c x) y → foldl byte_step d (drop (i + 8) s) ≡ foldl byte_step c (drop i s)
+block_more s i c small w h f g e = rw (e, f, g) (eight-more c s i (omega arith) small)
+
 -- behind the last block
 pub all_read : (c : ℕ) (s : List ℕ) (i : ℕ) → length s ≤ i → foldl byte_step c (drop i s) ≡ foldl byte_step 0xFFFFFFFF s → bit_xor c 0xFFFFFFFF ≡ crc_of s
 unfolding crc_of
 all_read c s i h e = ap (λ (x : ℕ). bit_xor x 0xFFFFFFFF) (rw (drop_of_length-le s h) at e)
-
-pub of-nothing : (s : List ℕ) → length s ≡ 0 → 0 ≡ crc_of s
-unfolding crc_of
-of-nothing [] e = refl
-of-nothing (x ∷ s) e = absurd (omega arith)
 
 -- ---- zeros in front
 
@@ -95,10 +95,6 @@ length-zeros (suc n) s = omega (arith, length-zeros n s)
 fold-zeros : (n c : ℕ) (s : List ℕ) → foldl byte_step c (zeros n s) ≡ foldl byte_step (foldl byte_step c (zeros n [])) s
 fold-zeros zero c s = refl
 fold-zeros (suc n) c s = fold-zeros n (byte_step c 0) s
-
--- the states from which 0 to 7 zeros lead to all ones
-abbrev pub openings : List ℕ
-openings = 0xFFFFFFFF ∷ 0xF0958FD9 ∷ 0x9A1C9D90 ∷ 0xA32E2681 ∷ 0x9226F562 ∷ 0xF47BF9CC ∷ 0xAF4C9D16 ∷ 0x46865AA9 ∷ []
 
 -- what n zeros lead to from the first state, one zero more from the second, and so on
 abbrev ends : ℕ → List ℕ → List ℕ
@@ -131,10 +127,42 @@ first_block n next s e p l w h d = record {
       ∙ ap (λ (x : ℕ). foldl byte_step x s) (opens n (omega arith));
 }
 
--- where the bytes are a multiple of four, and half says whether four are over
-pub even-first : (half : ℕ) (s : List ℕ) → half ≡ length s / 4 % 2 → length s % 4 ≡ 0 → 0 < length s → Small s
-    → First s (cond (eqb half 0) (record { far = bit_xor 0xFFFFFFFF (word_at s 0); near = word_at s (4 - 4 * half); next = 8 })
-    (record { far = 0x9226F562; near = word_at s (4 - 4 * half); next = 4 }))
-even-first zero s e d p h = first_block 0 8 s refl (lit< tt) (omega arith) (omega arith) h refl
-even-first (suc zero) s e d p h = first_block 4 4 s refl (lit< tt) (omega arith) (omega arith) h refl
-even-first (suc (suc n)) s e d p h = absurd (omega arith)
+drop-zeros : (n k : ℕ) (s : List ℕ) → drop (n + k) (zeros n s) ≡ drop k s
+drop-zeros zero k s = rw zero-add
+drop-zeros (suc n) k s = rw suc-add (drop-zeros n k s)
+
+abbrev eight : List ℕ → List ℕ
+eight s = get_or s 0 0 ∷ get_or s 1 0 ∷ get_or s 2 0 ∷ get_or s 3 0 ∷ get_or s 4 0 ∷ get_or s 5 0 ∷ get_or s 6 0 ∷ get_or s 7 0 ∷ []
+
+word-lt : (s : List ℕ) (i : ℕ) → Small s → word_at s i < 2 ^ 32
+word-lt s i h = omega (arith, h i, h (i + 1), h (i + 2), h (i + 3))
+
+bytes : (s : List ℕ) → Small s
+    → (get_or s 0 0 < 256) × (get_or s 1 0 < 256) × (get_or s 2 0 < 256) × (get_or s 3 0 < 256) × (get_or s 4 0 < 256) × (get_or s 5 0 < 256)
+    × (get_or s 6 0 < 256) × (get_or s 7 0 < 256)
+bytes s h = (h 0, h 1, h 2, h 3, h 4, h 5, h 6, h 7)
+
+-- shifted by n bytes, the first eight are those with n zeros in front
+shifted : (n : ℕ) (s : List ℕ) → n < 8 → Small s
+    → (from_le_bytes w64 (eight s) * 2 ^ (8 * n)) % 2 ^ 64 ≡ word_at (zeros n s) 0 + 4294967296 * word_at (zeros n s) 4
+shifted zero s h small = omega (arith, bytes s small)
+shifted (suc zero) s h small = omega (arith, bytes s small)
+shifted (suc (suc zero)) s h small = omega (arith, bytes s small)
+shifted (suc (suc (suc zero))) s h small = omega (arith, bytes s small)
+shifted (suc (suc (suc (suc zero)))) s h small = omega (arith, bytes s small)
+shifted (suc (suc (suc (suc (suc zero))))) s h small = omega (arith, bytes s small)
+shifted (suc (suc (suc (suc (suc (suc zero)))))) s h small = omega (arith, bytes s small)
+shifted (suc (suc (suc (suc (suc (suc (suc zero))))))) s h small = omega (arith, bytes s small)
+shifted (suc (suc (suc (suc (suc (suc (suc (suc n)))))))) s h small = absurd (omega arith)
+
+pub shifted-first : (s : List ℕ) (next n all block : ℕ) → next ≡ (length s - 1) % 8 + 1 → n ≡ 8 - next → 8 ≤ length s → Small s
+    → all ≡ from_le_bytes w64 (eight s) → block ≡ (all * 2 ^ (8 * n)) % 2 ^ 64
+    → First s (record { far = bit_xor (get_or openings n 0) (block % 4294967296); near = block / 4294967296; next = next })
+shifted-first s next n all block e d l small a b =
+    let is : block ≡ word_at (zeros n s) 0 + 4294967296 * word_at (zeros n s) 4 =
+    b ∙ ap (λ (x : ℕ). x * 2 ^ (8 * n) % 2 ^ 64) a ∙ shifted n s (omega arith) small in
+    let f = word-lt (zeros n s) 0 (small-zeros n s small) in
+    let low : block % 4294967296 ≡ word_at (zeros n s) 0 = omega arith in
+    let high : block / 4294967296 ≡ word_at (zeros n s) 4 = omega arith in
+    let whole : 8 ≡ n + next = omega arith in
+    rw (low, high) (first_block n next s (omega arith) (omega arith) (omega arith) (omega arith) small (rw whole (drop-zeros n next s)))

@@ -1,4 +1,3 @@
 -- Laws that the functions' proofs cite.
-pub mod ArmLaws
 pub mod BlockLaws
 pub mod StepLaws

@@ -1,14 +1,19 @@
 -- Bit steps of CRC-32 on a word are those on its bytes, joined; and the loop that looks up eight bytes joins them so. Assumes nothing.
-use mathlib.Core.Path.{◌≡◌, ap, ◌∙◌}
-use Prim.Native.Nat.{ℕ, zero, suc, ◌+◌, ◌-◌, ◌*◌, ◌/◌, ◌%◌, ◌^◌, ◌<◌, ◌≤◌}
+use mathlib.Core.Path.{◌≡◌, refl, ap, ap₂, ◌∙◌}
+use mathlib.Core.Bool.{Bool, true, false}
+use mathlib.Core.List.{List, [], ◌∷◌}
+use lib.Dec.{T}
+use lib.ListN.{get_or}
+use Prim.Native.Nat.{ℕ, zero, suc, ◌+◌, ◌*◌, ◌/◌, ◌%◌, ◌^◌, ◌<◌}
 use native.Mathlib.Nat.{zero-add, suc-add}
 use native.Mathlib.Omega.{arith}
 use lib.Bits.{bit_xor, xor_comm}
 use Rattle.checksum.specs.Crc.{bit_step, bit_steps}
+use Rattle.checksum.specs.Private.{table_from}
 use Rattle.checksum.proofs.CrcLaws.{bit_steps-xor, bit_steps-shifted, halves}
+use Rattle.checksum.proofs.Table.{both, both_left, both_right, eq_list, same, table_rule}
 use Rattle.checksum.proofs.XorLaws.{xor_assoc}
-use Rattle.checksum_slicing.specs.declared.table.Row.{Row}
-use Rattle.checksum_slicing.specs.Private.{row_of, shifted_of, after_block}
+use Rattle.checksum_slicing.specs.Private.{after_block, step_tables}
 
 pub bit_steps-add : (n m c : ℕ) → bit_steps (n + m) c ≡ bit_steps m (bit_steps n c)
 unfolding bit_steps
@@ -37,35 +42,64 @@ by_bytes n x h =
     (peel (8 + n) (x / 256 / 256) (omega arith)
     ∙ ap (λ (y : ℕ). bit_xor (bit_steps (16 + n) (x / 256 / 256 % 256)) (bit_steps (8 + n) y)) (omega arith)))
 
--- ---- the loop
+-- ---- eight bytes, looked up
 
-abbrev pub no_sums : Row
-no_sums = record { 0 = 0; 1 = 0; 2 = 0; 3 = 0; 4 = 0; 5 = 0; 6 = 0; 7 = 0 }
+-- table j, which has n steps on each byte
+pub looked-up : (j n m : ℕ) {t : List (List ℕ)} → t ≡ step_tables → get_or step_tables j [] ≡ table_from n 0 256 → m < 256
+    → get_or (get_or t j []) m 0 ≡ bit_steps n m
+looked-up j n m e r h =
+    ap (λ (l : List (List ℕ)). get_or (get_or l j []) m 0) e ∙ ap (λ (l : List ℕ). get_or l m 0) r ∙ table_rule n m h
 
--- what n turns more come to
-abbrev pub turns : ℕ → Row → ℕ → ℕ
-turns zero a x = a.0
-turns (suc n) a x = turns n (shifted_of a (row_of (x % 256))) (x / 256)
+pub by-tables : (far near : ℕ) {t : List (List ℕ)} → t ≡ step_tables → far < 2 ^ 32 → near < 2 ^ 32
+    → bit_xor
+    (bit_xor
+    (bit_xor
+    (bit_xor
+    (bit_xor
+    (bit_xor
+    (bit_xor (get_or (get_or t 3 []) (near % 256) 0) (get_or (get_or t 2 []) (near / 256 % 256) 0))
+    (get_or (get_or t 1 []) (near / 65536 % 256) 0))
+    (get_or (get_or t 0 []) (near / 16777216 % 256) 0))
+    (get_or (get_or t 7 []) (far % 256) 0))
+    (get_or (get_or t 6 []) (far / 256 % 256) 0))
+    (get_or (get_or t 5 []) (far / 65536 % 256) 0))
+    (get_or (get_or t 4 []) (far / 16777216 % 256) 0)
+    ≡ after_block far near
+unfolding step_tables
+by-tables far near e hf hn =
+    let f2 : far / 256 / 256 % 256 ≡ far / 65536 % 256 = omega arith in
+    let f3 : far / 256 / 256 / 256 % 256 ≡ far / 16777216 % 256 = omega arith in
+    let n2 : near / 256 / 256 % 256 ≡ near / 65536 % 256 = omega arith in
+    let n3 : near / 256 / 256 / 256 % 256 ≡ near / 16777216 % 256 = omega arith in
+    rw (
+      looked-up 7 64 (far % 256) e refl (omega arith),
+      looked-up 6 56 (far / 256 % 256) e refl (omega arith),
+      looked-up 5 48 (far / 65536 % 256) e refl (omega arith),
+      looked-up 4 40 (far / 16777216 % 256) e refl (omega arith),
+      looked-up 3 32 (near % 256) e refl (omega arith),
+      looked-up 2 24 (near / 256 % 256) e refl (omega arith),
+      looked-up 1 16 (near / 65536 % 256) e refl (omega arith),
+      looked-up 0 8 (near / 16777216 % 256) e refl (omega arith),
+      by_bytes 32 far hf,
+      by_bytes 0 near hn,
+      f2,
+      f3,
+      n2,
+      n3,
+    )
+    (simp xor_assoc)
 
-pub turn : (j : ℕ) (a : Row) (x : ℕ) {e b : Row} {k t : ℕ} → j < 8 → k ≡ 256 + x % 256 → e ≡ row_of (k - 256) → b ≡ shifted_of a e → turns (8 - j) a x ≡ t
-    → turns (8 - (j + 1)) b (x / 256) ≡ t
-turn j a x {e} {b} {k} h key look shift inv =
-    let left : 8 - j ≡ suc (8 - (j + 1)) = omega arith in
-    let place : k - 256 ≡ x % 256 = omega arith in
-    let next : b ≡ shifted_of a (row_of (x % 256)) = shift ∙ ap (shifted_of a) (look ∙ ap row_of place) in
-    rw next (rw left at inv)
+-- ---- two lists of tables are equal where a test that antt computes says so
 
-pub no-turn : (j : ℕ) (a : Row) (x : ℕ) {t : ℕ} → 8 ≤ j → turns (8 - j) a x ≡ t → a.0 ≡ t
-no-turn j a x h inv = let left : 8 - j ≡ 0 = omega arith in rw left at inv
+abbrev pub eq_tables : List (List ℕ) → List (List ℕ) → Bool
+eq_tables [] [] = true
+eq_tables [] (y ∷ ys) = false
+eq_tables (x ∷ xs) [] = false
+eq_tables (x ∷ xs) (y ∷ ys) = both (eq_list x y) (eq_tables xs ys)
 
-pub all-turns : (far near : ℕ) → far < 2 ^ 32 → near < 2 ^ 32 → turns 8 no_sums (far * 4294967296 + near) ≡ after_block far near
-all-turns far near hf hn =
-    let n0 : (far * 4294967296 + near) % 256 ≡ near % 256 = omega arith in
-    let d1 : (far * 4294967296 + near) / 256 ≡ far * 16777216 + near / 256 = omega arith in
-    let n1 : (far * 16777216 + near / 256) % 256 ≡ near / 256 % 256 = omega arith in
-    let d2 : (far * 16777216 + near / 256) / 256 ≡ far * 65536 + near / 256 / 256 = omega arith in
-    let n2 : (far * 65536 + near / 256 / 256) % 256 ≡ near / 256 / 256 % 256 = omega arith in
-    let d3 : (far * 65536 + near / 256 / 256) / 256 ≡ far * 256 + near / 256 / 256 / 256 = omega arith in
-    let n3 : (far * 256 + near / 256 / 256 / 256) % 256 ≡ near / 256 / 256 / 256 % 256 = omega arith in
-    let d4 : (far * 256 + near / 256 / 256 / 256) / 256 ≡ far = omega arith in
-    rw (n0, d1, n1, d2, n2, d3, n3, d4, by_bytes 0 near hn, by_bytes 32 far hf) (simp xor_assoc)
+pub same_all : (xs ys : List (List ℕ)) → T (eq_tables xs ys) → xs ≡ ys
+same_all [] [] t = refl
+same_all [] (y ∷ ys) t = absurd t
+same_all (x ∷ xs) [] t = absurd t
+same_all (x ∷ xs) (y ∷ ys) t =
+    ap₂ (λ (a : List ℕ) (l : List (List ℕ)). a ∷ l) (same x y (both_left (eq_list x y) (eq_tables xs ys) t)) (same_all xs ys (both_right (eq_list x y) (eq_tables xs ys) t))

@@ -1,40 +1,16 @@
 -- What private functions ask and promise. Nothing public rests on these definitions.
-use Rattle.std.specs.Prelude.{◌≡◌, ℕ, ◌+◌, ◌-◌, ◌*◌, ◌%◌, ◌≤◌, ◌<◌, length, get_or, drop}
-use mathlib.Core.List.{List, foldl}
+use Rattle.std.specs.Prelude.{◌≡◌, ℕ, ◌+◌, ◌-◌, ◌*◌, ◌%◌, ◌≤◌, length, get_or, drop}
+use mathlib.Core.List.{List, [], ◌∷◌, foldl}
 use Rattle.std.specs.Int.Bits.{bit_xor}
 use Rattle.checksum.specs.Crc.{bit_steps, byte_step}
+use Rattle.checksum.specs.Private.{table_from}
 use Rattle.checksum_slicing.specs.declared.Block.{Block}
-use Rattle.checksum_slicing.specs.declared.table.Row.{Row}
 
--- the key of a byte's row is 256 more than the byte
-abbrev pub Key : ℕ → Type 0
-Key k = (256 ≤ k) × (k < 512)
-
--- the row of a byte: numbers of bit steps on it
-abbrev pub row_of : ℕ → Row
-row_of b = record {
-  0 = bit_steps 40 b;
-  1 = bit_steps 48 b;
-  2 = bit_steps 56 b;
-  3 = bit_steps 64 b;
-  4 = bit_steps 8 b;
-  5 = bit_steps 16 b;
-  6 = bit_steps 24 b;
-  7 = bit_steps 32 b;
-}
-
--- the sums of a, each one place down, joined with those of e
-abbrev pub shifted_of : Row → Row → Row
-shifted_of a e = record {
-  0 = bit_xor a.1 e.0;
-  1 = bit_xor a.2 e.1;
-  2 = bit_xor a.3 e.2;
-  3 = bit_xor a.4 e.3;
-  4 = bit_xor a.5 e.4;
-  5 = bit_xor a.6 e.5;
-  6 = bit_xor a.7 e.6;
-  7 = e.7;
-}
+-- 8, 16 .. 64 bit steps on every byte
+unfoldable pub step_tables : List (List ℕ)
+step_tables =
+    table_from 8 0 256 ∷ table_from 16 0 256 ∷ table_from 24 0 256 ∷ table_from 32 0 256 ∷ table_from 40 0 256 ∷ table_from 48 0 256 ∷ table_from 56 0 256
+    ∷ table_from 64 0 256 ∷ []
 
 -- the four bytes of s from i on as a number, low byte first
 abbrev pub word_at : List ℕ → ℕ → ℕ
@@ -43,6 +19,10 @@ word_at s i = get_or s i 0 + 256 * (get_or s (i + 1) 0 + 256 * (get_or s (i + 2)
 -- the state after eight bytes: far is the first four, joined with the state before them, and near the others
 abbrev pub after_block : ℕ → ℕ → ℕ
 after_block far near = bit_xor (bit_steps 32 near) (bit_steps 64 far)
+
+-- the states from which 0 to 7 zeros lead to all ones
+abbrev pub openings : List ℕ
+openings = 0xFFFFFFFF ∷ 0xF0958FD9 ∷ 0x9A1C9D90 ∷ 0xA32E2681 ∷ 0x9226F562 ∷ 0xF47BF9CC ∷ 0xAF4C9D16 ∷ 0x46865AA9 ∷ []
 
 -- b is the first block of s: behind it whole blocks are left, and from it they come to what s comes to from all ones
 pub record First (s : List ℕ) (b : Block) : Type 0 where

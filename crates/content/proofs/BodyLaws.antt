@@ -8,15 +8,18 @@ use mathlib.Core.List.{List, []}
 use native.Mathlib.Omega.{arith}
 use lib.Dec.{T}
 use lib.ListN.{length, length-drop}
-use lib.Seq.{length-take-le}
+use lib.Seq.{length-take-le, take_all}
+use Rattle.std.specs.Prelude.{Option, Some, None, MatchOption, unwrap_or, ◌⊎◌}
+use Rattle.std.proofs.Common.{subst, inl, inr}
 use borrow.Author.Tests.{eqb-true, eq-eqb}
-use Rattle.framing.specs.declared.Layout.{Layout}
 use Rattle.framing.specs.declared.Found.{Found}
 use Rattle.framing.specs.declared.Found.TheVariants.{Frame, Start, Neither}
 use Rattle.framing.specs.Rules.{part}
-use Rattle.framing.specs.Format.{Format, onflight, shortest, longest, good, body_start, body_end, layout_of}
+use Rattle.framing.specs.declared.Format.{Format}
+use Rattle.framing.specs.declared.Format.TheVariants.{Onflight}
+use Rattle.framing.specs.Format.{known, shortest, longest, good, body_start, body_end, layout_of}
 use Rattle.framing.specs.Frame.{front, IsFrame}
-use Rattle.framing.proofs.FormatLaws.{lawful, good-known, body-fits}
+use Rattle.framing.proofs.FormatLaws.{lawful, good-known, body-fits, layout-none}
 use Rattle.framing.proofs.FrameLaws.{frame-means}
 use Rattle.framing.proofs.Length.{Within, whole-within, longest-pending}
 use Rattle.answer.specs.Answer.{given}
@@ -51,32 +54,15 @@ pub frame-short : (f : Format) (s : List ℕ) → is_frame f s ≡ true → leng
 frame-short f s h =
     omega (arith, (frame-within f s h).most, longest-pending f (good-known f s (checksum-right f s h)))
 
-pub onflight-length : (s : List ℕ) → is_frame onflight s ≡ true → length s ≡ 158
+pub onflight-length : (s : List ℕ) → is_frame Onflight s ≡ true → length s ≡ 158
 unfolding shortest longest
-onflight-length s h = omega (arith, frame-long onflight s h, frame-short onflight s h)
+onflight-length s h = omega (arith, frame-long Onflight s h, frame-short Onflight s h)
 
 -- ---- the body
 
 -- What stands before the body and after it lies inside the frame.
 pub body-inside : (f : Format) (s : List ℕ) → is_frame f s ≡ true → body_start f + body_end f ≤ length s
 body-inside f s h = omega (arith, body-fits f, frame-long f s h)
-
--- the numbers that code has of a format
-module _ (f : Format) {l : Layout} (e : l ≡ layout_of f) where
-  pub head-is : l.head ≡ body_start f
-  unfolding layout_of body_start
-  head-is = ap (λ (x : Layout). x.head) e
-
-  pub tail-is : l.tail ≡ body_end f
-  unfolding layout_of body_end
-  tail-is = ap (λ (x : Layout). x.tail) e
-
-  -- together they are at most the shortest frame
-  pub ends-fit : l.head + l.tail ≤ l.shortest
-  unfolding layout_of shortest
-  ends-fit =
-      let n : l.shortest ≡ shortest f = ap (λ (x : Layout). x.shortest) e in
-      omega (arith, head-is, tail-is, body-fits f)
 
 -- Who has judged the frame finds its body between its head and its tail.
 pub body-between : (f : Format) (s : List ℕ) → is_frame f s ≡ true → between_of f s ≡ body_of f s
@@ -89,18 +75,34 @@ module _ (f : Format) (s : List ℕ) {a e : ℕ} (p : a ≡ body_start f) (q : e
   unfolding between_of
   between-at = rw (p, q)
 
-  pub too_short : length s < a + e → [] ≡ between_of f s
-  unfolding between_of
-  too_short h = let z : length s - body_end f - body_start f ≡ 0 = omega arith in rw z
-
 -- the same of a frame
 module _ (f : Format) (s : List ℕ) {a e : ℕ} (h : is_frame f s ≡ true) (p : a ≡ body_start f) (q : e ≡ body_end f) where
+  pub tail-inside : e ≤ length s
+  tail-inside = omega (arith, body-inside f s h)
+
   pub place_at : given (record { start = a; end = length s - e }) ≡ place_of f s
   unfolding place_of
   place_at = rw (p, q) (passes _ _ h)
 
   pub body_at : part a (length s - e) s ≡ body_of f s
   body_at = between-at f s p q ∙ body-between f s h
+
+-- the code has no layout of the format
+module _ (f : Format) (s : List ℕ) (d : None ≡ layout_of f) where
+  pub all-between : s ≡ between_of f s
+  unfolding between_of body_start body_end
+  all-between = rw (layout-none f (sym d)) (sym (take_all (length s - 0 - 0) s (omega arith)))
+
+  pub no-frame : is_frame f s ≡ true → ⊥
+  unfolding known
+  no-frame h = let k = good-known f s (checksum-right f s h) in subst (λ (g : Format). T (known g)) (layout-none f (sym d)) k
+
+-- a part that is asked for, and none where it does not lie inside
+pub part-or-none : {B : Type 0} (now : B → List ℕ) (s : List ℕ) (a e : ℕ) (o : Option B) (d : B) (P : B → Type 0) → now d ≡ [] → e ≤ length s
+    → MatchOption o ((e < a) ⊎ (length s < e)) (λ x. (a ≤ e) × (e ≤ length s) × (now x ≡ part a e s) × P x) → now (unwrap_or o d) ≡ part a e s
+part-or-none now s a e None d P n h (inl g) = let z : e - a ≡ 0 = omega arith in n ∙ rw z
+part-or-none now s a e None d P n h (inr g) = absurd (omega arith)
+part-or-none now s a e (Some x) d P n h g = g.2
 
 -- how long it is
 part_length : (a e : ℕ) (s : List ℕ) → a ≤ e → e ≤ length s → length (part a e s) ≡ e - a

@@ -1,2 +1,3 @@
 -- Laws of bodies, each proved once over the format; and the proofs of the functions.
 pub mod BodyLaws
+pub mod JudgeLaws

@@ -1,13 +1,14 @@
 -- Whether bytes are one whole frame, and where the body of a frame is (docs/FORMATS.md, "Content").
-use Rattle.std.specs.Prelude.{ℕ, ◌-◌, Bool, false, cond, List, [], eqb, length}
+use Rattle.std.specs.Prelude.{ℕ, ◌-◌, Bool, false, cond, List, [], eqb, length, Result}
 use Rattle.framing.specs.declared.Found.{Found}
 use Rattle.framing.specs.declared.Found.TheVariants.{Frame, Start, Neither}
 use Rattle.framing.specs.Rules.{part}
-use Rattle.framing.specs.Format.{Format, body_start, body_end}
+use Rattle.framing.specs.declared.Format.{Format}
+use Rattle.framing.specs.Format.{body_start, body_end}
 use Rattle.framing.specs.Frame.{front}
-use Rattle.content.specs.declared.Place.{Place}
-use Rattle.content.specs.declared.Place.TheVariants.{At, Refused}
-use Rattle.answer.specs.Answer.{Answer, given, refused, unless, refusal_number}
+use Rattle.content.specs.declared.Span.{Span}
+use Rattle.answer.specs.declared.Refusal.{Refusal}
+use Rattle.answer.specs.Answer.{Answer, given, unless, answer_of}
 
 -- they begin with a frame of all n bytes
 abbrev pub spans : Found → ℕ → Bool
@@ -19,17 +20,11 @@ spans (Neither r) n = false
 unfoldable pub is_frame : Format → List ℕ → Bool
 is_frame f s = spans (front f s) (length s)
 
--- the bytes from `start` up to `end`
-pub record Span : Type 0 where
-  pub start : ℕ
-  pub end : ℕ
-
 abbrev pub nowhere : Span
 nowhere = record { start = 0; end = 0 }
 
-abbrev pub place_answer : Place → Answer Span
-place_answer (At a e) = given (record { start = a; end = e })
-place_answer (Refused r) = refused nowhere (refusal_number r)
+abbrev pub place_answer : Result Span Refusal → Answer Span
+place_answer r = answer_of nowhere (λ x. x) r
 
 -- where the body is: 7 where the bytes are not one frame
 unfoldable pub place_of : Format → List ℕ → Answer Span

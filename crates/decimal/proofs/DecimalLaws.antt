@@ -1,17 +1,17 @@
 -- Laws of decimal digits: how many a number has, and the last of them.
 -- Assumes nothing.
-use Prim.Native.Nat.{ℕ, zero, suc, ◌+◌, ◌-◌, ◌/◌, ◌%◌, ◌^◌, ◌≤◌, ◌<◌}
-use mathlib.Core.Path.{◌≡◌, refl, ap, ◌∙◌}
+use Prim.Native.Nat.{ℕ, zero, suc, ◌+◌, ◌-◌, ◌/◌, ◌%◌, ◌^◌, ◌≤◌, ◌<◌, min}
+use mathlib.Core.Path.{◌≡◌, refl, sym, ap, ◌∙◌}
 use mathlib.Core.Bool.{cond}
 use mathlib.Core.List.{List, [], ◌∷◌}
 use native.Mathlib.Decide.{dec_le}
 use native.Mathlib.Nat.{one-le-pow}
 use native.Mathlib.Omega.{arith}
 use lib.Dec.{leb}
-use lib.ListN.{length, set, length-append}
+use lib.ListN.{length, set, take, length-append}
 use borrow.Author.Tests.{le-leb, lt-leb}
 use Rattle.buffer.specs.Buffer.{copied}
-use Rattle.buffer.proofs.BufferLaws.{copied-last}
+use Rattle.buffer.proofs.BufferLaws.{copied-last, first-copied}
 use Rattle.decimal.specs.Decimal.{last_digits, count_steps, digit_count}
 
 -- ---- how many
@@ -44,6 +44,10 @@ count_most (suc k) n h = go (dec_le n 9) (count_most k (n / 10) (omega arith))
     go : Dec (n ≤ 9) → digit_count (n / 10) ≤ suc k → digit_count n ≤ suc (suc k)
     go (yes p) q = omega (arith, count-one n p)
     go (no p) q = omega (arith, count-more n (omega arith))
+
+-- a number of 64 bits has at most 20
+pub count_wide : (n : ℕ) → n < 2 ^ 64 → min (digit_count n) 20 ≡ digit_count n
+count_wide n h = omega (arith, count_most 19 n (omega arith))
 
 -- one at least
 pub count-some : (n : ℕ) → 0 < digit_count n
@@ -83,3 +87,9 @@ last-laid zero n out at h f = absurd (omega arith)
 last-laid (suc j) n out at h f =
     let e : suc j - 1 ≡ j = omega arith in
     rw e (copied-last (last_digits j (n / 10)) out (0x30 + n % 10) at j (length_last j (n / 10)) (omega arith))
+
+-- they are put into a buffer
+pub last-put : {k : ℕ} (m n : ℕ) (t : List ℕ) {u : List ℕ} → m ≡ k → k ≤ length t → u ≡ copied (last_digits m n) t 0 → take m u ≡ last_digits k n
+last-put m n t e h w =
+    let l = length_last m n in
+    rw w (ap (λ (i : ℕ). take i (copied (last_digits m n) t 0)) (sym l) ∙ first-copied (last_digits m n) t (omega arith)) ∙ ap (λ (i : ℕ). last_digits i n) e

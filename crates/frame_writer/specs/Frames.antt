@@ -6,7 +6,8 @@ use Rattle.checksum.specs.Crc.{crc_of}
 use Rattle.checksum.specs.Fletcher.{fletcher_of}
 use Rattle.checksum.specs.Xor.{xor_of}
 use Rattle.framing.specs.Nmea.{permitted}
-use Rattle.framing.specs.Format.{Format, mgl, onflight, nmea, unknown}
+use Rattle.framing.specs.declared.Format.{Format}
+use Rattle.framing.specs.declared.Format.TheVariants.{Mgl, Onflight, Nmea, Unknown}
 use Rattle.mgl.specs.declared.Header.{Header}
 
 -- ---- what is taken: refusal 5 is given exactly for the others
@@ -18,12 +19,12 @@ all_permitted (b ∷ bs) = permitted b && all_permitted bs
 
 unfoldable pub takes : Format → List ℕ → Bool
 -- a multiple of 4 from 12 to 264, which keeps the checksum on a 4-byte boundary
-takes mgl body = leb 12 (length body) && leb (length body) 264 && eqb (length body % 4) 0
-takes onflight payload = eqb (length payload) 152
+takes Mgl body = leb 12 (length body) && leb (length body) 264 && eqb (length body % 4) 0
+takes Onflight payload = eqb (length payload) 152
 -- 1 to 76 permitted bytes
-takes nmea body = leb 1 (length body) && leb (length body) 76 && all_permitted body
+takes Nmea body = leb 1 (length body) && leb (length body) 76 && all_permitted body
 -- No bytes are a frame of an unknown format, and its writer takes no body: refusal 5. This is a case added to document 01's list of 5.
-takes unknown body = false
+takes Unknown body = false
 
 -- ---- MGL: 05 02 L X, type, rate, count, version, body, and CRC-32 from the type on, low byte first
 
@@ -61,7 +62,7 @@ pub record Content : Type 0 where
   pub body : List ℕ
 
 abbrev pub frame_of : Format → Content → List ℕ
-frame_of mgl c = mgl_frame c.header c.body
-frame_of onflight c = onflight_frame c.body
-frame_of nmea c = nmea_frame c.body
-frame_of unknown c = []
+frame_of Mgl c = mgl_frame c.header c.body
+frame_of Onflight c = onflight_frame c.body
+frame_of Nmea c = nmea_frame c.body
+frame_of Unknown c = []

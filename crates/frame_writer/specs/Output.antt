@@ -1,12 +1,11 @@
 -- What a writer gives: document 01's number, how many bytes it wrote, and the output as it returns (docs/FORMATS.md,
 -- "Refusal numbers" and "Writers").
-use Rattle.std.specs.Prelude.{ℕ, Bool, List, leb, length}
+use Rattle.std.specs.Prelude.{ℕ, Bool, List, Result, leb, length}
 use Rattle.buffer.specs.Buffer.{put}
-use Rattle.framing.specs.Format.{Format}
-use Rattle.answer.specs.Answer.{Answer, given, refused, unless, refusal_number}
+use Rattle.framing.specs.declared.Format.{Format}
+use Rattle.answer.specs.declared.Refusal.{Refusal}
+use Rattle.answer.specs.Answer.{Answer, given, unless, answer_of}
 use Rattle.frame_writer.specs.Frames.{takes, Content, frame_of}
-use Rattle.frame_writer.specs.declared.Writing.{Writing}
-use Rattle.frame_writer.specs.declared.Writing.TheVariants.{Written, Refused}
 
 pub record Output : Type 0 where
   pub written : ℕ
@@ -16,9 +15,8 @@ abbrev pub untouched : List ℕ → Output
 untouched out = record { written = 0; out = out }
 
 -- an answer, and the output as it is then
-abbrev pub writing_answer : Writing → List ℕ → Answer Output
-writing_answer (Written n) out = given (record { written = n; out = out })
-writing_answer (Refused r) out = refused (untouched out) (refusal_number r)
+abbrev pub writing_answer : Result ℕ Refusal → List ℕ → Answer Output
+writing_answer w out = answer_of (untouched out) (λ n. record { written = n; out = out }) w
 
 -- "For writers: 5 or 9, then 6": n where the content is not taken, then 6 where the output is smaller than the frame. A refusal
 -- leaves the output as lent; otherwise the frame is put at its start, and the rest is unchanged.

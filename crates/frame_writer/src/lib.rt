@@ -1,72 +1,61 @@
 // Writers of whole frames, each into a caller's output buffer.
 #![tactic(auto)]
 
-ghost use Rattle.std.specs.Prelude.{◌≡◌};
-ghost use Rattle.framing.specs.Format.{mgl, onflight, nmea};
+ghost use Rattle.std.specs.Prelude.{◌≡◌, ◌+◌, ◌<◌, ◌≤◌, ◌^◌, ◌++◌, length, MatchResult};
+ghost use Rattle.framing.specs.declared.Format.TheVariants.{Mgl, Onflight, Nmea};
+ghost use Rattle.answer.specs.declared.Refusal.TheVariants.{OutputTooSmall};
+ghost use Rattle.buffer.specs.Buffer.{put};
 ghost use Rattle.frame_writer.specs.Output.{writing_answer, write};
 ghost use Rattle.frame_writer.specs.Frames.{takes, all_permitted, mgl_frame, onflight_frame, nmea_frame};
 
 use answer::Refusal;
 use mgl::Header;
 
-// How many bytes of the output the frame takes, or why nothing was written.
-#[derive(Clone, Copy)]
-pub enum Writing {
-    Written(usize),
-    Refused(Refusal),
-}
-
 // Whether an MGL body is taken.
 #[tactic(auto, using(std::proofs::lemmas::Bool::Decides::nat_tests), unfolding(crate::specs::Frames::takes))]
 fn takes_mgl(body: &[u8]) -> bool
-    ensures { result ≡ takes mgl body.now }
+    ensures { result ≡ takes Mgl body.now }
 {
-    if body.len() < 12 {
-        return false;
-    }
-    if 264 < body.len() {
-        return false;
-    }
-    body.len() % 4 == 0
+    12 <= body.len() && body.len() <= 264 && body.len() % 4 == 0
 }
 
 // Whether every byte may stand in the body of a sentence.
 fn all_permitted(body: &[u8]) -> bool
     ensures { result ≡ all_permitted body.now }
 {
-    let mut i = 0;
-    while i < body.len() {
-        if !framing::nmea::is_permitted(body[i]) {
-            return false;
-        }
-        i += 1;
-    }
-    true
+    body.iter().all(|b| framing::nmea::is_permitted(*b))
 }
 
 // Whether the body of a sentence is taken.
+#[tactic(auto, using(std::proofs::lemmas::Bool::Decides::nat_tests), unfolding(crate::specs::Frames::takes))]
 fn takes_nmea(body: &[u8]) -> bool
-    ensures { result ≡ takes nmea body.now }
+    ensures { result ≡ takes Nmea body.now }
 {
-    if body.len() < 1 {
-        return false;
+    1 <= body.len() && body.len() <= 76 && all_permitted(body)
+}
+
+// Puts a head and a body to the start of the output, where a tail of so many bytes fits behind them, and answers where they end.
+fn put_front(head: &[u8], body: &[u8], tail: usize, out: &mut [u8]) -> Result<usize, Refusal>
+    requires { length head.now + length body.now + tail < 2 ^ 64 }
+    ensures { MatchResult result
+        (λ e. (e ≡ length head.now + length body.now) × ((e + tail ≤ length out.old) × (out.new ≡ put (head.now ++ body.now) out.old)))
+        (λ r. (r ≡ OutputTooSmall) × ((length out.old < length head.now + length body.now + tail) × (out.new ≡ out.old))) }
+{
+    let end = head.len() + body.len();
+    if out.len() < end + tail {
+        return Err(Refusal::OutputTooSmall);
     }
-    if 76 < body.len() {
-        return false;
-    }
-    all_permitted(body)
+    buffer::copy(head, out, 0);
+    buffer::copy(body, out, head.len());
+    Ok(end)
 }
 
 // Writes an MGL frame of a header and a body.
-pub fn write_mgl(header: Header, body: &[u8], out: &mut [u8]) -> Writing
-    ensures { writing_answer result out.new ≡ write 5 (takes mgl body.now) (mgl_frame header body.now) out.old }
+pub fn write_mgl(header: Header, body: &[u8], out: &mut [u8]) -> Result<usize, Refusal>
+    ensures { writing_answer result out.new ≡ write 5 (takes Mgl body.now) (mgl_frame header body.now) out.old }
 {
     if !takes_mgl(body) {
-        return Writing::Refused(Refusal::NotWritable);
-    }
-    let end = body.len() + 8;
-    if out.len() < end + 4 {
-        return Writing::Refused(Refusal::OutputTooSmall);
+        return Err(Refusal::NotWritable);
     }
     let l = ((body.len() - 8) % 256) as u8;
     let head = [
@@ -79,46 +68,35 @@ pub fn write_mgl(header: Header, body: &[u8], out: &mut [u8]) -> Writing
         header.count,
         header.version,
     ];
-    buffer::copy(&head, out, 0);
-    buffer::copy(body, out, 8);
-    let sum = numbers::low_bytes(checksum::crc32(&out[4..end]));
+    let end = put_front(&head, body, 4, out)?;
+    let sum = checksum::crc32(&out[4..end]).to_le_bytes();
     buffer::copy(&sum, out, end);
-    Writing::Written(end + 4)
+    Ok(end + 4)
 }
 
 // Writes an OnFlight frame of a payload.
-pub fn write_onflight(payload: &[u8], out: &mut [u8]) -> Writing
-    ensures { writing_answer result out.new ≡ write 5 (takes onflight payload.now) (onflight_frame payload.now) out.old }
+pub fn write_onflight(payload: &[u8], out: &mut [u8]) -> Result<usize, Refusal>
+    ensures { writing_answer result out.new ≡ write 5 (takes Onflight payload.now) (onflight_frame payload.now) out.old }
 {
     if payload.len() != 152 {
-        return Writing::Refused(Refusal::NotWritable);
+        return Err(Refusal::NotWritable);
     }
-    if out.len() < 158 {
-        return Writing::Refused(Refusal::OutputTooSmall);
-    }
-    let head = [0x42, 0x46, 0x01, 0x98];
-    buffer::copy(&head, out, 0);
-    buffer::copy(payload, out, 4);
-    let sums = checksum::fletcher16(&out[..156]);
+    let end = put_front(&[0x42, 0x46, 0x01, 0x98], payload, 2, out)?;
+    let sums = checksum::fletcher16(&out[..end]);
     let tail = [sums.plain, sums.weighted];
-    buffer::copy(&tail, out, 156);
-    Writing::Written(158)
+    buffer::copy(&tail, out, end);
+    Ok(end + 2)
 }
 
 // Writes a sentence of a body.
-pub fn write_nmea(body: &[u8], out: &mut [u8]) -> Writing
-    ensures { writing_answer result out.new ≡ write 5 (takes nmea body.now) (nmea_frame body.now) out.old }
+pub fn write_nmea(body: &[u8], out: &mut [u8]) -> Result<usize, Refusal>
+    ensures { writing_answer result out.new ≡ write 5 (takes Nmea body.now) (nmea_frame body.now) out.old }
 {
     if !takes_nmea(body) {
-        return Writing::Refused(Refusal::NotWritable);
+        return Err(Refusal::NotWritable);
     }
-    let end = body.len() + 1;
-    if out.len() < end + 5 {
-        return Writing::Refused(Refusal::OutputTooSmall);
-    }
+    let end = put_front(b"$", body, 5, out)?;
     let sum = checksum::xor8(body);
-    buffer::copy(b"$", out, 0);
-    buffer::copy(body, out, 1);
     let tail = [
         b'*',
         numbers::hex_digit(sum / 16),
@@ -127,5 +105,5 @@ pub fn write_nmea(body: &[u8], out: &mut [u8]) -> Writing
         0x0A,
     ];
     buffer::copy(&tail, out, end);
-    Writing::Written(end + 5)
+    Ok(end + 5)
 }

@@ -4,7 +4,8 @@ use Rattle.std.proofs.Common.{◌≡◌, ℕ, zero, suc, ◌+◌, ◌<◌, ◌�
 use Rattle.framing.specs.declared.Reason.TheVariants.{BodyTooLong}
 use Rattle.framing.specs.declared.Scanned.TheVariants.{Whole, Partial, Broken}
 use Rattle.framing.specs.Nmea.{permitted, nmea_next}
-use Rattle.framing.specs.Format.{nmea, next}
+use Rattle.framing.specs.declared.Format.TheVariants.{Nmea}
+use Rattle.framing.specs.Format.{next}
 use Rattle.framing.specs.Shape.{scan_from, scan}
 use Rattle.framing.specs.Private.{ending_byte, Permitted, Ended, Reached}
 use Rattle.framing.proofs.RunLaws.{both}
@@ -48,10 +49,10 @@ no-star : (b : ℕ) → permitted b ≡ true → b ≡ 0x2A → ⊥
 no-star b p e = let q : false ≡ true = rw e at p in let z : ◌≡◌ {A = ℕ} 0 1 = cc in omega arith
 
 module _ (s : List ℕ) (d : get_or s 0 0 ≡ 0x24) where
-  pub reached-scan : (k : ℕ) → Reached k s → k ≤ 77 → scan nmea s ≡ scan_from nmea k 0 (drop k s)
+  pub reached-scan : (k : ℕ) → Reached k s → k ≤ 77 → scan Nmea s ≡ scan_from Nmea k 0 (drop k s)
   unfolding scan next nmea_next
   reached-scan zero r l = let h = r.some in absurd (omega arith)
-  reached-scan (suc zero) r l = let h = r.inside in scan-more nmea 0 0 s (omega arith) (rw d)
+  reached-scan (suc zero) r l = let h = r.inside in scan-more Nmea 0 0 s (omega arith) (rw d)
   reached-scan (suc (suc k)) r l =
       let h = r.inside in
       let p = r.body (suc k) (omega arith) (omega arith) in
@@ -59,7 +60,7 @@ module _ (s : List ℕ) (d : get_or s 0 0 ≡ 0x24) where
       ∙ (rw (add-one (suc k)) at (body_more s (suc k) (omega arith) (omega arith) (no-star (get_or s (suc k) 0) p) p (omega arith)))
 
   -- a body that goes past place 77 is too long
-  pub reached-long : (k : ℕ) → Reached k s → 77 < k → scan nmea s ≡ Broken BodyTooLong
+  pub reached-long : (k : ℕ) → Reached k s → 77 < k → scan Nmea s ≡ Broken BodyTooLong
   reached-long k r l =
       let h = r.inside in
       let p = r.body 77 (omega arith) l in
@@ -67,15 +68,15 @@ module _ (s : List ℕ) (d : get_or s 0 0 ≡ 0x24) where
       ∙ body-long s 77 (omega arith) (omega arith) (no-star (get_or s 77 0) p) p (omega arith)
 
   -- one that goes on to the end
-  pub reached-all : Reached (length s) s → scan nmea s ≡ cond (ltb 77 (length s)) (Broken BodyTooLong) Partial
+  pub reached-all : Reached (length s) s → scan Nmea s ≡ cond (ltb 77 (length s)) (Broken BodyTooLong) Partial
   reached-all r = go (ltb 77 (length s)) refl
     where
-      go : (b : Bool) → ltb 77 (length s) ≡ b → scan nmea s ≡ cond b (Broken BodyTooLong) Partial
+      go : (b : Bool) → ltb 77 (length s) ≡ b → scan Nmea s ≡ cond b (Broken BodyTooLong) Partial
       go true e = reached-long (length s) r (ltb-true 77 (length s) e)
-      go false e = reached-scan (length s) r (ltb-false 77 (length s) e) ∙ scan-end nmea (length s) 0 s (omega arith)
+      go false e = reached-scan (length s) r (ltb-false 77 (length s) e) ∙ scan-end Nmea (length s) 0 s (omega arith)
 
   -- one that the end of a sentence follows
-  pub ended-whole : (e : ℕ) → Reached e s → e ≤ 77 → 1 < e → length s ≡ e + 5 → Ended s e → scan nmea s ≡ Whole (length s)
+  pub ended-whole : (e : ℕ) → Reached e s → e ≤ 77 → 1 < e → length s ≡ e + 5 → Ended s e → scan Nmea s ≡ Whole (length s)
   unfolding ending_byte
   ended-whole e r l g n d =
       let w : e + 1 + 1 + 1 + 1 + 1 ≡ length s = omega arith in

@@ -1,19 +1,21 @@
 -- Laws of the bytes that begin no shape: how many they are, how code counts them, and what the reading makes of them.
 -- Assumes nothing.
-use Rattle.std.proofs.Common.{◌≡◌, ℕ, zero, suc, ◌+◌, ◌*◌, ◌<◌, ◌≤◌, Bool, true, false, cond, T, eqb, List, [], ◌∷◌, ◌++◌, length, get_or, drop, replicate, sym, refl, ap, ◌∙◌, subst, ⊎_elim, suc-mul, add-one, arith, drop_of_length-le, drop-cons, eq-eqb, ne_eqb}
+use Rattle.std.proofs.Common.{◌≡◌, ℕ, zero, suc, ◌+◌, ◌*◌, ◌<◌, ◌≤◌, Bool, true, false, cond, T, eqb, List, [], ◌∷◌, ◌++◌, length, get_or, drop, replicate, sym, refl, ap, ◌∙◌, subst, ⊎_elim, suc-mul, add-one, arith, drop_of_length-le, drop-cons, eq-eqb, ne_eqb, Some}
 use borrow.Author.Tests.{eqb-false, not-true}
 use Rattle.framing.specs.declared.Reason.{Reason}
 use Rattle.framing.specs.declared.Reason.TheVariants.{StartByte}
 use Rattle.framing.specs.declared.Found.TheVariants.{Neither}
 use Rattle.framing.specs.Rules.{Next, more, bad, Rules, must}
-use Rattle.framing.specs.Format.{Format, known, first, next}
+use Rattle.framing.specs.declared.Format.{Format}
+use Rattle.framing.specs.declared.Layout.{Layout}
+use Rattle.framing.specs.Format.{layout_of, known, first, next}
 use Rattle.framing.specs.Shape.{follow, scan_from, scan}
 use Rattle.framing.specs.Frame.{front}
 use Rattle.framing.specs.Reading.{ongoing, Event, skipped, Reading, ◌then◌, read, joined, total, one_frame, framed_bytes, skipped_bytes}
 use Rattle.framing.specs.FindStart.{fits, begins, find_start}
 use Rattle.framing.specs.Private.{Each, differs, find_byte}
 use Rattle.framing.proofs.Lawful.{Opens}
-use Rattle.framing.proofs.FormatLaws.{lawful}
+use Rattle.framing.proofs.FormatLaws.{lawful, layout-some}
 use Rattle.framing.proofs.FrameLaws.{front_at}
 use Rattle.framing.proofs.ReadingLaws.{read_at}
 
@@ -47,6 +49,12 @@ module _ (f : Format) (a : ℕ) (o : Opens f a) where
       pick : (t : Bool) → fits (must t (more 0) StartByte) ≡ false → must t (more 0) StartByte ≡ bad StartByte
       pick true e = cc
       pick false e = refl
+
+-- by the first byte of a format's layout
+pub find-start-by : (f : Format) (xs : List ℕ) {l : Layout} → Some l ≡ layout_of f → find_byte l.first xs ≡ find_start f xs
+find-start-by f xs {l} e =
+    let w = layout-some f (sym e) in
+    ap (λ a. find_byte a xs) w.first ∙ sym (find-start-before f (first f) ((lawful f).opens (subst T (sym w.known) tt)) xs)
 
 -- a format that is not known has no shape
 nothing : (f : Format) → known f ≡ false → (k m x : ℕ) → next f k m x ≡ bad StartByte

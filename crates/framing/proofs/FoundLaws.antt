@@ -5,7 +5,7 @@ use lib.Seq.{take-append-le, drop-append-le}
 use Rattle.framing.specs.declared.Reason.{Reason}
 use Rattle.framing.specs.declared.Found.{Found}
 use Rattle.framing.specs.declared.Found.TheVariants.{Frame, Start, Neither}
-use Rattle.framing.specs.Format.{Format}
+use Rattle.framing.specs.declared.Format.{Format}
 use Rattle.framing.specs.Frame.{front}
 use Rattle.framing.specs.Reading.{closing, read, frames}
 use Rattle.framing.specs.Meaning.{Clear, StillFound}

@@ -7,7 +7,9 @@ use Rattle.framing.specs.declared.Scanned.{Scanned}
 use Rattle.framing.specs.declared.Scanned.TheVariants.{Whole, Partial, Broken}
 use Rattle.framing.specs.declared.Found.{Found}
 use Rattle.framing.specs.declared.Found.TheVariants.{Frame, Start, Neither}
-use Rattle.framing.specs.Format.{Format, unknown, next, good}
+use Rattle.framing.specs.declared.Format.{Format}
+use Rattle.framing.specs.declared.Format.TheVariants.{Unknown}
+use Rattle.framing.specs.Format.{next, good}
 use Rattle.framing.specs.Shape.{scan_from, scan}
 use Rattle.framing.specs.Meaning.{FrameMeans}
 use Rattle.framing.specs.Frame.{front_of, front, IsFrame}
@@ -25,7 +27,7 @@ pub front-whole : (f : Format) (xs : List ℕ) {n : ℕ} {t : Bool} → scan f x
 front-whole f xs {n} e g = front_at f xs e ∙ ap (λ (b : Bool). cond b (Frame n) (Neither Checksum)) g
 
 -- a format that is not known has no shape
-pub no_front : (xs : List ℕ) → front unknown xs ≡ cond (eqb (length xs) 0) Start (Neither StartByte)
+pub no_front : (xs : List ℕ) → front Unknown xs ≡ cond (eqb (length xs) 0) Start (Neither StartByte)
 unfolding front scan scan_from next
 no_front [] = refl
 no_front (x ∷ xs) = rw (ne_eqb (suc (length xs)) 0 (λ e. omega arith))

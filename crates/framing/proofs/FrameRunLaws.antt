@@ -1,15 +1,15 @@
 -- Frames one behind the other, as code goes through them.
 -- Assumes nothing.
-use Rattle.std.proofs.Common.{◌≡◌, ℕ, zero, suc, ◌+◌, ◌-◌, ◌<◌, ◌≤◌, min, true, false, List, [], ◌∷◌, length, take, drop, sym, refl, ap, ◌∙◌, subst, add-zero, zero-add, arith, length-drop, take_all, drop-drop}
+use Rattle.std.proofs.Common.{◌≡◌, ℕ, zero, suc, ◌+◌, ◌-◌, ◌<◌, ◌≤◌, min, true, false, List, [], ◌∷◌, length, take, drop, sym, refl, ap, ◌∙◌, subst, add-zero, zero-add, arith, length-drop, length-take-le, take_all, drop-drop, Some, None}
 use native.Mathlib.Nat.{sub-zero, zero-sub}
 use lib.Seq.{take-nil}
 use Rattle.framing.specs.declared.Reason.{Reason}
 use Rattle.framing.specs.declared.Found.{Found}
 use Rattle.framing.specs.declared.Found.TheVariants.{Frame, Start, Neither}
 use Rattle.framing.specs.declared.frame_run.Run.{Run}
-use Rattle.framing.specs.Format.{Format}
+use Rattle.framing.specs.declared.Format.{Format}
 use Rattle.framing.specs.Frame.{front}
-use Rattle.framing.specs.FrameRun.{run_by, frame_run, frame_length}
+use Rattle.framing.specs.FrameRun.{run_by, frame_run, length_found, frame_length}
 use Rattle.framing.specs.Meaning.{LengthTells}
 use Rattle.framing.proofs.FrameLaws.{FrameIn, front-inside}
 
@@ -57,12 +57,12 @@ module _ (f : Format) (s : List ℕ) (most a k : ℕ) (l : Led f s most a k) whe
       let m : most - k ≡ suc (most - (k + 1)) = omega arith in
       l.same ∙ rw (m, e)
 
-  pub frame-ends : (n : ℕ) → front f (drop a s) ≡ Frame n → (0 < n) × (a + n ≤ length s)
+  frame-ends : (n : ℕ) → front f (drop a s) ≡ Frame n → (0 < n) × (a + n ≤ length s)
   frame-ends n e =
       let i = subst (FrameIn (length (drop a s))) e (front-inside f (drop a s)) in
       (i.0, omega (arith, i.1, l.inside, length-drop a s))
 
-  pub led-frame : (n : ℕ) → k < most → front f (drop a s) ≡ Frame n → Led f s most (a + n) (k + 1)
+  led-frame : (n : ℕ) → k < most → front f (drop a s) ≡ Frame n → Led f s most (a + n) (k + 1)
   led-frame n h e =
       let i = frame-ends n e in
       let r = frame_run f (most - (k + 1)) (drop (a + n) s) in
@@ -70,25 +70,48 @@ module _ (f : Format) (s : List ℕ) (most a k : ℕ) (l : Led f s most a k) whe
       let c : k + suc r.frames ≡ k + 1 + r.frames = omega arith in
       record { inside = i.1; few = omega arith; less = omega (arith, l.less, i.0); same = step h e ∙ rw (drop-drop n a s, b, c) }
 
-  pub led-start-here : k < most → front f (drop a s) ≡ Start → record { bytes = a; frames = k; waits = true } ≡ frame_run f most s
+  led-start-here : k < most → front f (drop a s) ≡ Start → record { bytes = a; frames = k; waits = true } ≡ frame_run f most s
   led-start-here h e =
       let b : a + 0 ≡ a = omega arith in
       let c : k + 0 ≡ k = omega arith in
       sym (step h e ∙ rw (b, c))
 
-  pub led-neither : (r : Reason) → k < most → front f (drop a s) ≡ Neither r → record { bytes = a; frames = k; waits = false } ≡ frame_run f most s
+  led-neither : (r : Reason) → k < most → front f (drop a s) ≡ Neither r → record { bytes = a; frames = k; waits = false } ≡ frame_run f most s
   led-neither r h e =
       let b : a + 0 ≡ a = omega arith in
       let c : k + 0 ≡ k = omega arith in
       sym (step h e ∙ rw (b, c))
 
-  pub led-full : most ≤ k → record { bytes = a; frames = k; waits = false } ≡ frame_run f most s
+  pub led-full : most ≤ k → record { bytes = a; frames = most; waits = false } ≡ frame_run f most s
   unfolding frame_run
   led-full h =
       let m : most - k ≡ 0 = omega arith in
       let b : a + 0 ≡ a = omega arith in
-      let c : k + 0 ≡ k = omega arith in
+      let c : k + 0 ≡ most = omega (arith, l.few) in
       sym (l.same ∙ rw (m, b, c))
+
+-- what the front of the rest of the first e bytes, as code reads it, comes to
+module _ {f : Format} (s : List ℕ) {e most a k : ℕ} (l : Led f (take e s) most a k) (i : e ≤ length s) (h : k < most)
+    {o : Found} (q : o ≡ front f (take (e - a) (take (length s - a) (drop a s)))) where
+  told : front f (drop a (take e s)) ≡ o
+  told = ap (front f) (sym (tail_within s a e)) ∙ sym q
+
+  pub next-ends : {n : ℕ} → o ≡ Frame n → a + n ≤ length s
+  next-ends {n} w = omega (arith, (frame-ends f (take e s) most a k l n (told ∙ w)).1, length-take-le e s i)
+
+  pub next-led : {n : ℕ} → o ≡ Frame n → Led f (take e s) most (a + n) (k + 1)
+  next-led {n} w = led-frame f (take e s) most a k l n h (told ∙ w)
+
+  pub next-waits : o ≡ Start → record { bytes = a; frames = k; waits = true } ≡ frame_run f most (take e s)
+  next-waits w = led-start-here f (take e s) most a k l h (told ∙ w)
+
+  pub next-none : ((n : ℕ) → o ≡ Frame n → ⊥) → (o ≡ Start → ⊥) → record { bytes = a; frames = k; waits = false } ≡ frame_run f most (take e s)
+  next-none x y = go o refl
+    where
+      go : (p : Found) → o ≡ p → record { bytes = a; frames = k; waits = false } ≡ frame_run f most (take e s)
+      go (Frame n) w = absurd (x n w)
+      go Start w = absurd (y w)
+      go (Neither r) w = led-neither f (take e s) most a k l r h (told ∙ w)
 
 -- ---- the first frame alone
 
@@ -106,13 +129,26 @@ run-one f xs = go (front f xs)
     go Start = refl
     go (Neither r) = refl
 
-pub one-length : (f : Format) (xs : List ℕ) → (frame_run f 1 xs).bytes ≡ frame_length (front f xs)
-one-length f xs = ap (λ (r : Run). r.bytes) (run-one f xs) ∙ go (front f xs)
-  where
-    go : (o : Found) → (one_of o).bytes ≡ frame_length o
-    go (Frame n) = refl
-    go Start = refl
-    go (Neither r) = refl
+-- a run of at most one frame, and whether it has one
+module _ (f : Format) (xs : List ℕ) {r : Run} (q : r ≡ frame_run f 1 xs) where
+  is_one : r ≡ one_of (front f xs)
+  is_one = q ∙ run-one f xs
+
+  pub one-none : r.frames ≡ 0 → None ≡ length_found (front f xs)
+  one-none e = go (front f xs) (rw is_one at e)
+    where
+      go : (o : Found) → (one_of o).frames ≡ 0 → None ≡ length_found o
+      go (Frame n) h = absurd (omega arith)
+      go Start h = refl
+      go (Neither r) h = refl
+
+  pub one-some : (r.frames ≡ 0 → ⊥) → Some r.bytes ≡ length_found (front f xs)
+  one-some e = ap (λ (p : Run). Some p.bytes) is_one ∙ go (front f xs) (rw is_one at e)
+    where
+      go : (o : Found) → ((one_of o).frames ≡ 0 → ⊥) → Some (one_of o).bytes ≡ length_found o
+      go (Frame n) h = refl
+      go Start h = absurd (h refl)
+      go (Neither r) h = absurd (h refl)
 
 length-frame : (o : Found) (n : ℕ) → frame_length o ≡ n → 0 < n → o ≡ Frame n
 length-frame (Frame m) n e h = ap Frame e

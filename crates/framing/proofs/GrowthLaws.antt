@@ -1,19 +1,21 @@
 -- A head that tells how many bytes its shape has. Assumes nothing.
-use Rattle.std.proofs.Common.{◌≡◌, ℕ, ◌+◌, ◌-◌, ◌<◌, ◌≤◌, Bool, true, false, cond, ltb, List, [], ◌++◌, length, get_or, refl, ap, ◌∙◌, subst, append-nil, arith, length-append, get_or-append-add, ltb-false, ltb-true}
+use Rattle.std.proofs.Common.{◌≡◌, ℕ, ◌+◌, ◌-◌, ◌<◌, ◌≤◌, Bool, true, false, cond, ltb, List, [], ◌++◌, length, get_or, refl, ap, ◌∙◌, subst, append-nil, arith, length-append, get_or-append-add, ltb-false, ltb-true, Option, Some, None, IfSome, sym}
 use lib.ListN.{get_or-append}
 use borrow.Author.Tests.{lt-leb}
 use Rattle.framing.specs.declared.Scanned.TheVariants.{Partial}
-use Rattle.framing.specs.Format.{Format, mgl, onflight, nmea, next}
+use Rattle.framing.specs.declared.Format.{Format}
+use Rattle.framing.specs.declared.Format.TheVariants.{Mgl, Onflight, Nmea}
+use Rattle.framing.specs.Format.{next}
 use Rattle.framing.specs.Mgl.{length_from_byte, mgl_next}
 use Rattle.framing.specs.Onflight.{onflight_next}
 use Rattle.framing.specs.Nmea.{permitted}
 use Rattle.framing.specs.Shape.{scan}
 use Rattle.framing.specs.declared.Growth.TheVariants.{Grows, Waits, Unsaid}
 use Rattle.framing.specs.Growth.{Grown}
-use Rattle.framing.specs.Private.{Permitted, Reached, Needs, GrownBy, told_by}
+use Rattle.framing.specs.Private.{Permitted, Reached, told_length, Needs, GrownBy, told_by}
 use Rattle.framing.proofs.ShapeLaws.{scan-more, scan-end, counted-at}
 use Rattle.framing.proofs.BodyLaws.{reached-scan}
-use Rattle.framing.proofs.MglLaws.{mgl-whole}
+use Rattle.framing.proofs.MglLaws.{mgl-whole, told}
 use Rattle.framing.proofs.OnflightLaws.{onflight-counts}
 
 -- some bytes that are fewer are a proper start
@@ -29,31 +31,35 @@ module _ (s : List ℕ) (l : 4 ≤ length s) (ys : List ℕ) where
   longer = omega (arith, length-append s ys)
 
   head-mgl : get_or s 0 0 ≡ 0x05 → get_or s 1 0 ≡ 0x02 → get_or s 2 0 + get_or s 3 0 ≡ 255 → (m : ℕ) → length_from_byte (get_or s 2 0) + 20 ≡ m
-      → length (s ++ ys) < m → scan mgl (s ++ ys) ≡ Partial
+      → length (s ++ ys) < m → scan Mgl (s ++ ys) ≡ Partial
   unfolding scan next mgl_next
   head-mgl a b h m e k =
-      scan-more mgl 0 0 (s ++ ys) (omega (arith, longer)) (rw (kept 0 (omega arith), a))
-      ∙ scan-more mgl 1 0 (s ++ ys) (omega (arith, longer)) (rw (kept 1 (omega arith), b))
+      scan-more Mgl 0 0 (s ++ ys) (omega (arith, longer)) (rw (kept 0 (omega arith), a))
+      ∙ scan-more Mgl 1 0 (s ++ ys) (omega (arith, longer)) (rw (kept 1 (omega arith), b))
       ∙ mgl-whole (s ++ ys) longer (rw (kept 2 (omega arith), kept 3 (omega arith)) h) m (rw (kept 2 (omega arith)) e)
       ∙ rw (lt-leb m (length (s ++ ys)) k)
 
   head-onflight : get_or s 0 0 ≡ 0x42 → get_or s 1 0 ≡ 0x46 → get_or s 2 0 ≡ 0x01 → get_or s 3 0 ≡ 0x98
-      → length (s ++ ys) < 158 → scan onflight (s ++ ys) ≡ Partial
+      → length (s ++ ys) < 158 → scan Onflight (s ++ ys) ≡ Partial
   unfolding scan next onflight_next
   head-onflight a b d e k =
-      scan-more onflight 0 0 (s ++ ys) (omega (arith, longer)) (rw (kept 0 (omega arith), a))
-      ∙ scan-more onflight 1 0 (s ++ ys) (omega (arith, longer)) (rw (kept 1 (omega arith), b))
-      ∙ scan-more onflight 2 0 (s ++ ys) (omega (arith, longer)) (rw (kept 2 (omega arith), d))
-      ∙ scan-more onflight 3 0 (s ++ ys) (omega (arith, longer)) (rw (kept 3 (omega arith), e))
-      ∙ counted-at onflight 4 onflight-counts 4 158 (s ++ ys) (omega arith) longer (omega arith)
+      scan-more Onflight 0 0 (s ++ ys) (omega (arith, longer)) (rw (kept 0 (omega arith), a))
+      ∙ scan-more Onflight 1 0 (s ++ ys) (omega (arith, longer)) (rw (kept 1 (omega arith), b))
+      ∙ scan-more Onflight 2 0 (s ++ ys) (omega (arith, longer)) (rw (kept 2 (omega arith), d))
+      ∙ scan-more Onflight 3 0 (s ++ ys) (omega (arith, longer)) (rw (kept 3 (omega arith), e))
+      ∙ counted-at Onflight 4 onflight-counts 4 158 (s ++ ys) (omega arith) longer (omega arith)
       ∙ rw (lt-leb 158 (length (s ++ ys)) k)
 
-module _ (s : List ℕ) (l : 4 ≤ length s) (a : get_or s 0 0 ≡ 0x05) (b : get_or s 1 0 ≡ 0x02) (h : get_or s 2 0 + get_or s 3 0 ≡ 255) where
-  pub mgl-needs : (m : ℕ) → length_from_byte (get_or s 2 0) + 20 ≡ m → Needs mgl s m
-  mgl-needs m e ys k = head-mgl s l ys a b h m e k
+module _ (s : List ℕ) (l : 4 ≤ length s) (a : get_or s 0 0 ≡ 0x05) (b : get_or s 1 0 ≡ 0x02) where
+  pub mgl-needs : {o : Option ℕ} → o ≡ told_length s → IfSome o (Needs Mgl s)
+  mgl-needs {o} q = go o q
+    where
+      go : (o : Option ℕ) → o ≡ told_length s → IfSome o (Needs Mgl s)
+      go None q = tt
+      go (Some m) q = let w = told s m (sym q) in λ ys k. head-mgl s l ys a b w.0 m w.1 k
 
 pub onflight-needs : (s : List ℕ) → 4 ≤ length s → get_or s 0 0 ≡ 0x42 → get_or s 1 0 ≡ 0x46 → get_or s 2 0 ≡ 0x01 → get_or s 3 0 ≡ 0x98
-    → Needs onflight s 158
+    → Needs Onflight s 158
 onflight-needs s l a b d e ys k = head-onflight s l ys a b d e k
 
 -- ---- what more bytes make of a start
@@ -77,11 +83,11 @@ needs-grown f s more m n ys l = go (ltb (length s + more) m) refl
 -- ---- an unended body
 
 module _ (s : List ℕ) (d : get_or s 0 0 ≡ 0x24) (k : length s ≤ 77) (r : Reached (length s) s) where
-  pub body-waits : scan nmea s ≡ Partial
-  body-waits = reached-scan s d (length s) r k ∙ scan-end nmea (length s) 0 s (omega arith)
+  pub body-waits : scan Nmea s ≡ Partial
+  body-waits = reached-scan s d (length s) r k ∙ scan-end Nmea (length s) 0 s (omega arith)
 
 -- a body that permitted bytes follow
-pub body-grows : (s ys : List ℕ) → get_or s 0 0 ≡ 0x24 → Reached (length s) s → length s + length ys ≤ 77 → Permitted 0 (length ys) ys → scan nmea (s ++ ys) ≡ Partial
+pub body-grows : (s ys : List ℕ) → get_or s 0 0 ≡ 0x24 → Reached (length s) s → length s + length ys ≤ 77 → Permitted 0 (length ys) ys → scan Nmea (s ++ ys) ≡ Partial
 body-grows s ys d r k p =
     let n = length-append s ys in
     body-waits (s ++ ys) (get_or-append s ys 0 0 (omega (arith, r.some)) ∙ d) (omega arith)

@@ -6,7 +6,8 @@ use Rattle.framing.specs.declared.Reason.TheVariants.{StartByte, SecondByte}
 use Rattle.framing.specs.declared.Scanned.{Scanned}
 use Rattle.framing.specs.declared.Scanned.TheVariants.{Whole, Partial, Broken}
 use Rattle.framing.specs.Rules.{more, must}
-use Rattle.framing.specs.Format.{Format, next}
+use Rattle.framing.specs.declared.Format.{Format}
+use Rattle.framing.specs.Format.{next}
 use Rattle.framing.specs.Shape.{follow, scan_from, scan}
 use Rattle.framing.specs.Private.{sync_of}
 use Rattle.framing.specs.contracts.Scanned.{the_type}

@@ -8,7 +8,8 @@ use Rattle.framing.specs.declared.Reason.{Reason}
 use Rattle.framing.specs.declared.Reason.TheVariants.{StartByte}
 use Rattle.framing.specs.declared.Scanned.TheVariants.{Whole}
 use Rattle.framing.specs.Rules.{Next, more, done, bad, must, up_to, no_rules}
-use Rattle.framing.specs.Format.{Format, rules_of, known, first, shortest, longest, pending_bound, body_start, body_end, next}
+use Rattle.framing.specs.declared.Format.{Format}
+use Rattle.framing.specs.Format.{rules_of, known, first, shortest, longest, pending_bound, body_start, body_end, next}
 use Rattle.framing.specs.Shape.{scan_from}
 use Rattle.framing.specs.Meaning.{IsByte, Bytes}
 use Rattle.framing.proofs.ShapeLaws.{CountsFrom, counted}

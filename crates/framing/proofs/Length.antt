@@ -5,7 +5,8 @@ use Rattle.framing.specs.declared.Reason.TheVariants.{StartByte}
 use Rattle.framing.specs.declared.Scanned.{Scanned}
 use Rattle.framing.specs.declared.Scanned.TheVariants.{Whole, Partial, Broken}
 use Rattle.framing.specs.Rules.{Next, more, done, bad, must}
-use Rattle.framing.specs.Format.{Format, known, first, longest, shortest, pending_bound, next}
+use Rattle.framing.specs.declared.Format.{Format}
+use Rattle.framing.specs.Format.{known, first, longest, shortest, pending_bound, next}
 use Rattle.framing.specs.Shape.{follow, scan_from, scan}
 use Rattle.framing.specs.Meaning.{IsShape, LayoutMeans}
 use Rattle.framing.proofs.ShapeLaws.{WholeIn, inside}

@@ -2,7 +2,7 @@
 -- Assumes nothing.
 use Rattle.std.proofs.Common.{◌≡◌, ℕ, List, [], ◌∷◌, ◌++◌, sym, ◌∙◌, subst, arith}
 use lib.Seq.{take-append_seam, drop-append_seam}
-use Rattle.framing.specs.Format.{Format}
+use Rattle.framing.specs.declared.Format.{Format}
 use Rattle.framing.specs.Frame.{IsFrame}
 use Rattle.framing.specs.Reading.{Mode, framed, ◌then◌, read}
 use Rattle.framing.proofs.FrameLaws.{FrameIn, front-inside, Decided, front-stays}

@@ -2,16 +2,17 @@
 -- Assumes nothing.
 use Rattle.std.proofs.Common.{ℕ, zero, suc, ◌≤◌, eqb, refl, inl, arith}
 use Rattle.framing.specs.Onflight.{onflight_next}
-use Rattle.framing.specs.Format.{onflight, known, first, shortest, longest, pending_bound, body_start, body_end, next}
+use Rattle.framing.specs.declared.Format.TheVariants.{Onflight}
+use Rattle.framing.specs.Format.{known, first, shortest, longest, pending_bound, body_start, body_end, next}
 use Rattle.framing.proofs.ShapeLaws.{CountsFrom, from-four}
 use Rattle.framing.proofs.HeadLaws.{StartsWith}
 use Rattle.framing.proofs.Lawful.{After, must-after, Completes, one_more, Lawful, Counted, up_to-after, counted-bound, the-missing, head-completes}
 
-pub onflight-counts : CountsFrom onflight 4
+pub onflight-counts : CountsFrom Onflight 4
 unfolding next onflight_next
-onflight-counts = from-four onflight (λ k m b. refl)
+onflight-counts = from-four Onflight (λ k m b. refl)
 
-pub onflight-starts : StartsWith onflight 0x42 0x46
+pub onflight-starts : StartsWith Onflight 0x42 0x46
 unfolding next onflight_next
 onflight-starts = record { first = λ m x. refl; second = λ m x. refl }
 
@@ -25,15 +26,15 @@ onflight-after (suc (suc (suc zero))) m b h = must-after _ _ (eqb b 0x98) _ _ (�
 onflight-after (suc (suc (suc (suc k)))) m b h = up_to-after 158 158 (suc (suc (suc (suc k)))) m h
 
 -- OnFlight: the payload's length, and the version
-onflight-fourth : (m : ℕ) → Completes onflight 3 m
+onflight-fourth : (m : ℕ) → Completes Onflight 3 m
 unfolding next onflight_next
-onflight-fourth m = one_more 0x98 158 (omega arith) refl (the-missing onflight 4 onflight-counts 4 158 (omega arith) (omega arith))
+onflight-fourth m = one_more 0x98 158 (omega arith) refl (the-missing Onflight 4 onflight-counts 4 158 (omega arith) (omega arith))
 
-onflight-third : (m : ℕ) → Completes onflight 2 m
+onflight-third : (m : ℕ) → Completes Onflight 2 m
 unfolding next onflight_next
 onflight-third m = one_more 0x01 0 (omega arith) refl (onflight-fourth 0)
 
-pub onflight-lawful : Lawful onflight
+pub onflight-lawful : Lawful Onflight
 unfolding known first shortest longest pending_bound body_start body_end next onflight_next
 onflight-lawful =
     record {

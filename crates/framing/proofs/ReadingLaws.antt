@@ -7,7 +7,8 @@ use Rattle.framing.specs.declared.Reason.TheVariants.{RanOut}
 use Rattle.framing.specs.declared.Scanned.TheVariants.{Partial}
 use Rattle.framing.specs.declared.Found.{Found}
 use Rattle.framing.specs.declared.Found.TheVariants.{Frame, Start, Neither}
-use Rattle.framing.specs.Format.{Format, pending_bound}
+use Rattle.framing.specs.declared.Format.{Format}
+use Rattle.framing.specs.Format.{pending_bound}
 use Rattle.framing.specs.Shape.{scan_from, scan}
 use Rattle.framing.specs.Frame.{front, IsFrame}
 use Rattle.framing.specs.Reading.{Mode, ongoing, closing, Event, framed, skipped, Reading, ◌then◌, step, read_steps, read, extend, frames, joined, total, one_frame, framed_bytes, framed_count, skipped_count, pending_count}

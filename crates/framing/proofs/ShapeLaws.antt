@@ -7,7 +7,8 @@ use Rattle.framing.specs.declared.Reason.{Reason}
 use Rattle.framing.specs.declared.Scanned.{Scanned}
 use Rattle.framing.specs.declared.Scanned.TheVariants.{Whole, Partial, Broken}
 use Rattle.framing.specs.Rules.{Next, more, done, bad, up_to}
-use Rattle.framing.specs.Format.{Format, next}
+use Rattle.framing.specs.declared.Format.{Format}
+use Rattle.framing.specs.Format.{next}
 use Rattle.framing.specs.Shape.{follow, scan_from, scan}
 use Rattle.framing.specs.Meaning.{IsShape, PrefixFree, WholeMeans}
 

@@ -5,7 +5,8 @@ use Rattle.std.proofs.Common.{◌≡◌, ℕ, suc, ◌≤◌, T, List, [], ◌�
 use Rattle.framing.specs.declared.Scanned.TheVariants.{Whole, Partial}
 use Rattle.framing.specs.declared.Found.TheVariants.{Frame}
 use Rattle.framing.specs.Rules.{Next, more, done, bad}
-use Rattle.framing.specs.Format.{Format, known, shortest, next}
+use Rattle.framing.specs.declared.Format.{Format}
+use Rattle.framing.specs.Format.{known, shortest, next}
 use Rattle.framing.specs.Shape.{follow, scan_from, scan}
 use Rattle.framing.specs.Frame.{front, IsFrame}
 use Rattle.framing.specs.Meaning.{IsByte, Bytes, StartMeans, FrontExactly}

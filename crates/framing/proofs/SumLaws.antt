@@ -10,7 +10,8 @@ use Rattle.checksum.specs.Xor.{xor_of}
 use Rattle.checksum.proofs.Fold.{fold_end}
 use Rattle.checksum.proofs.XorLaws.{xor_assoc, xor4}
 use Rattle.framing.specs.Nmea.{hex_value}
-use Rattle.framing.specs.Format.{nmea, good}
+use Rattle.framing.specs.declared.Format.TheVariants.{Nmea}
+use Rattle.framing.specs.Format.{good}
 
 -- an operation that sums: 0 adds nothing, and no order counts
 pub record Sums (op : ℕ → ℕ → ℕ) : Type 0 where
@@ -89,7 +90,7 @@ behind-first [] (suc n) h = sym (take-nil (suc n - 1))
 behind-first (x ∷ s) (suc n) h = let e : suc n - 1 ≡ n = omega arith in rw e
 
 pub good-at : (s : List ℕ) (n : ℕ) → 7 ≤ n → n ≤ length s
-    → good nmea (take n s) ≡ eqb (xor_of (take (n - 6) (take (length s - 1) (drop 1 s)))) (hex_value (get_or s (n - 4) 0) * 16 + hex_value (get_or s (n - 3) 0))
+    → good Nmea (take n s) ≡ eqb (xor_of (take (n - 6) (take (length s - 1) (drop 1 s)))) (hex_value (get_or s (n - 4) 0) * 16 + hex_value (get_or s (n - 3) 0))
 unfolding good
 good-at s n h l =
     let e : n - 5 - 1 ≡ n - 6 = omega arith in

@@ -1,7 +1,8 @@
 -- The bytes that begin no shape, which a reading skips one by one (docs/FORMATS.md, "The reading of a line").
 use Rattle.std.specs.Prelude.{ℕ, suc, Bool, true, false, cond, List, [], ◌∷◌}
 use Rattle.framing.specs.Rules.{Next, more, done, bad}
-use Rattle.framing.specs.Format.{Format, next}
+use Rattle.framing.specs.declared.Format.{Format}
+use Rattle.framing.specs.Format.{next}
 
 -- whether a shape has the byte that was judged so
 abbrev pub fits : Next → Bool

@@ -5,7 +5,8 @@ use Rattle.framing.specs.declared.Scanned.{Scanned}
 use Rattle.framing.specs.declared.Scanned.TheVariants.{Whole, Partial, Broken}
 use Rattle.framing.specs.declared.Found.{Found}
 use Rattle.framing.specs.declared.Found.TheVariants.{Frame, Start, Neither}
-use Rattle.framing.specs.Format.{Format, good}
+use Rattle.framing.specs.declared.Format.{Format}
+use Rattle.framing.specs.Format.{good}
 use Rattle.framing.specs.Shape.{scan}
 
 abbrev pub front_of : Format → List ℕ → Scanned → Found

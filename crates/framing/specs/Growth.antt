@@ -3,7 +3,7 @@ use Rattle.std.specs.Prelude.{◌≡◌, ℕ, List, ◌++◌}
 use Rattle.framing.specs.declared.Scanned.TheVariants.{Partial}
 use Rattle.framing.specs.declared.Growth.{Growth}
 use Rattle.framing.specs.declared.Growth.TheVariants.{Grows, Waits, Unsaid}
-use Rattle.framing.specs.Format.{Format}
+use Rattle.framing.specs.declared.Format.{Format}
 use Rattle.framing.specs.Shape.{scan}
 
 -- what an answer promises of s and of the bytes after it

@@ -4,7 +4,8 @@
 use Rattle.std.specs.Prelude.{◌≡◌, ℕ, ◌+◌, ◌<◌, ◌≤◌, T, ◌↔◌, List, [], ◌∷◌, ◌++◌, length, take, drop, slice_index_or}
 use Rattle.framing.specs.declared.Scanned.TheVariants.{Whole, Partial}
 use Rattle.framing.specs.declared.Found.TheVariants.{Frame, Start}
-use Rattle.framing.specs.Format.{Format, known, first, shortest, longest, good}
+use Rattle.framing.specs.declared.Format.{Format}
+use Rattle.framing.specs.Format.{known, first, shortest, longest, good}
 use Rattle.framing.specs.Shape.{scan}
 use Rattle.framing.specs.Frame.{front, IsFrame}
 use Rattle.framing.specs.FrameRun.{frame_length}

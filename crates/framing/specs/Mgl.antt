@@ -1,8 +1,9 @@
 -- Document 01's MGL frames (docs/FORMATS.md, "MGL frames"): 05 02 L X, L + 20 bytes in all.
-use Rattle.std.specs.Prelude.{ℕ, zero, suc, ◌+◌, ◌-◌, Bool, true, List, length, ◌==◌}
+use Rattle.std.specs.Prelude.{ℕ, zero, suc, ◌+◌, ◌-◌, Bool, List, length, ◌==◌, Some}
 use Rattle.numbers.specs.Low.{low}
 use Rattle.checksum.specs.Crc.{crc_of}
 use Rattle.framing.specs.declared.Reason.TheVariants.{StartByte, SecondByte, HeaderByte}
+use Rattle.framing.specs.declared.Layout.{Layout}
 use Rattle.framing.specs.Rules.{Next, more, Rules, rules, must, up_to, part}
 
 -- L = 0 stands for 256
@@ -23,6 +24,8 @@ abbrev pub mgl_good : List ℕ → Bool
 mgl_good xs = crc_of (part 4 (length xs - 4) xs) == low 4 xs (length xs - 4)
 
 -- The body has 8 bytes before it, the last four the type, rate, count and version, and the checksum after it.
+abbrev pub mgl_layout : Layout
+mgl_layout = record { first = 0x05; shortest = 21; longest = 276; head = 8; tail = 4 }
+
 abbrev pub mgl_rules : Rules
-mgl_rules =
-    rules (record { known = true; first = 0x05; shortest = 21; longest = 276; head = 8; tail = 4 }) mgl_next mgl_good
+mgl_rules = rules (Some mgl_layout) mgl_next mgl_good

@@ -1,7 +1,8 @@
 -- Document 01's NMEA sentences (docs/FORMATS.md, "NMEA sentences"): `$`, 1 to 76 body bytes, `*`, two digits, CR, LF.
-use Rattle.std.specs.Prelude.{ℕ, zero, suc, ◌+◌, ◌-◌, ◌*◌, Bool, true, cond, not, ◌&&◌, ◌||◌, List, [], ◌∷◌, length, ◌==◌, nat_le, nat_lt, slice_index}
+use Rattle.std.specs.Prelude.{ℕ, zero, suc, ◌+◌, ◌-◌, ◌*◌, Bool, cond, not, ◌&&◌, ◌||◌, List, [], ◌∷◌, length, ◌==◌, nat_le, nat_lt, slice_index, Some}
 use Rattle.checksum.specs.Xor.{xor_of}
 use Rattle.framing.specs.declared.Reason.TheVariants.{StartByte, BodyByte, BodyTooLong, Ending}
+use Rattle.framing.specs.declared.Layout.{Layout}
 use Rattle.framing.specs.Rules.{Next, more, done, Rules, rules, must, part}
 
 -- a byte that may stand in a body
@@ -43,6 +44,8 @@ abbrev pub nmea_good : List ℕ → Bool
 nmea_good xs =
     (xor_of (part 1 (length xs - 5) xs) == hex_value (slice_index xs (length xs - 4)) * 16 + hex_value (slice_index xs (length xs - 3)))
 
+abbrev pub nmea_layout : Layout
+nmea_layout = record { first = 0x24; shortest = 7; longest = 82; head = 1; tail = 5 }
+
 abbrev pub nmea_rules : Rules
-nmea_rules =
-    rules (record { known = true; first = 0x24; shortest = 7; longest = 82; head = 1; tail = 5 }) nmea_next nmea_good
+nmea_rules = rules (Some nmea_layout) nmea_next nmea_good

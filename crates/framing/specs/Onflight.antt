@@ -1,7 +1,8 @@
 -- Document 01's OnFlight frames (docs/FORMATS.md, "OnFlight frames"): 42 46 01 98, 158 bytes in all.
-use Rattle.std.specs.Prelude.{ℕ, zero, suc, ◌-◌, Bool, true, ◌&&◌, List, length, take, ◌==◌, slice_index}
+use Rattle.std.specs.Prelude.{ℕ, zero, suc, ◌-◌, Bool, ◌&&◌, List, length, take, ◌==◌, slice_index, Some}
 use Rattle.checksum.specs.Fletcher.{fletcher_of}
 use Rattle.framing.specs.declared.Reason.TheVariants.{StartByte, SecondByte, HeaderByte}
+use Rattle.framing.specs.declared.Layout.{Layout}
 use Rattle.framing.specs.Rules.{Next, more, Rules, rules, must, up_to}
 
 -- Kept: the number of all bytes.
@@ -18,6 +19,8 @@ onflight_good xs =
     ((fletcher_of (take (length xs - 2) xs)).plain == slice_index xs (length xs - 2))
     && (fletcher_of (take (length xs - 2) xs)).weighted == slice_index xs (length xs - 1)
 
+abbrev pub onflight_layout : Layout
+onflight_layout = record { first = 0x42; shortest = 158; longest = 158; head = 4; tail = 2 }
+
 abbrev pub onflight_rules : Rules
-onflight_rules =
-    rules (record { known = true; first = 0x42; shortest = 158; longest = 158; head = 4; tail = 2 }) onflight_next onflight_good
+onflight_rules = rules (Some onflight_layout) onflight_next onflight_good

@@ -1,5 +1,5 @@
 -- What private functions promise. Nothing public rests on these definitions.
-use Rattle.std.specs.Prelude.{◌≡◌, ℕ, zero, suc, ◌+◌, ◌*◌, ◌<◌, ◌≤◌, Bool, true, false, cond, not, List, [], ◌∷◌, ◌++◌, length, ◌==◌, nat_lt, slice_index, slice_index_or}
+use Rattle.std.specs.Prelude.{◌≡◌, ℕ, zero, suc, ◌+◌, ◌*◌, ◌<◌, ◌≤◌, Bool, true, false, cond, not, List, [], ◌∷◌, ◌++◌, length, ◌==◌, nat_lt, slice_index, slice_index_or, Option, Some, None}
 use Rattle.checksum.specs.Xor.{xor_of}
 use Rattle.framing.specs.declared.rows.Passed.{Passed}
 use Rattle.framing.specs.declared.Reason.TheVariants.{StartByte, SecondByte}
@@ -9,7 +9,7 @@ use Rattle.framing.specs.declared.Growth.{Growth}
 use Rattle.framing.specs.declared.Growth.TheVariants.{Grows, Waits, Unsaid}
 use Rattle.framing.specs.Mgl.{length_from_byte}
 use Rattle.framing.specs.Nmea.{permitted, hex_digit, hex_value, comma_count}
-use Rattle.framing.specs.Format.{Format}
+use Rattle.framing.specs.declared.Format.{Format}
 use Rattle.framing.specs.Shape.{scan}
 use Rattle.framing.specs.Growth.{Grown}
 
@@ -75,11 +75,11 @@ unfoldable pub find_byte : ℕ → List ℕ → ℕ
 find_byte a [] = 0
 find_byte a (x ∷ xs) = cond (x == a) 0 (suc (find_byte a xs))
 
--- how many bytes an MGL frame has by its length byte: 0 where the complement is wrong
-abbrev pub told_length : List ℕ → ℕ
-told_length s = cond (slice_index s 2 + slice_index s 3 == 255) (length_from_byte (slice_index s 2) + 20) 0
+-- how many bytes an MGL frame has by its length byte, where the complement is right
+abbrev pub told_length : List ℕ → Option ℕ
+told_length s = cond (slice_index s 2 + slice_index s 3 == 255) (Some (length_from_byte (slice_index s 2) + 20)) None
 
--- With fewer than m bytes in all, s and whatever follows it are a proper start of a shape: 0 promises nothing.
+-- With fewer than m bytes in all, s and whatever follows it are a proper start of a shape.
 abbrev pub Needs : Format → List ℕ → ℕ → Type 0
 Needs f s m = (ys : List ℕ) → length (s ++ ys) < m → scan f (s ++ ys) ≡ Partial
 

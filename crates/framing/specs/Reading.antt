@@ -6,7 +6,7 @@ use Rattle.framing.specs.declared.Reason.{Reason}
 use Rattle.framing.specs.declared.Reason.TheVariants.{RanOut}
 use Rattle.framing.specs.declared.Found.{Found}
 use Rattle.framing.specs.declared.Found.TheVariants.{Frame, Start, Neither}
-use Rattle.framing.specs.Format.{Format}
+use Rattle.framing.specs.declared.Format.{Format}
 use Rattle.framing.specs.Frame.{front}
 
 -- The reading stops at a proper start of a shape (ongoing); the closing reading skips its first byte and goes on (closing).

@@ -3,7 +3,8 @@ use Rattle.std.specs.Prelude.{ℕ, suc, List, [], ◌∷◌}
 use Rattle.framing.specs.declared.Scanned.{Scanned}
 use Rattle.framing.specs.declared.Scanned.TheVariants.{Whole, Partial, Broken}
 use Rattle.framing.specs.Rules.{Next, more, done, bad}
-use Rattle.framing.specs.Format.{Format, next}
+use Rattle.framing.specs.declared.Format.{Format}
+use Rattle.framing.specs.Format.{next}
 
 -- docs/FORMATS.md, "The reading of a line"
 abbrev pub follow : ℕ → Next → (ℕ → Scanned) → Scanned

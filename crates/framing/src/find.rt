@@ -1,27 +1,17 @@
 // How many bytes come before the first of a kind: in blocks of 64 while there are whole ones, and then byte by byte.
-ghost use Rattle.std.specs.Prelude.{◌≡◌, ◌+◌, ◌≤◌, length, if◌then◌else◌};
+ghost use Rattle.std.specs.Prelude.{◌≡◌, ◌+◌, ◌<◌, ◌≤◌, ℕ, true, length, slice_index};
 ghost use Rattle.framing.specs.Private.{Each, differs, find_byte};
 
-// i, where byte i of a block is `first`, and else the block's length.
-fn found_at(i: u8, b: u8, first: u8) -> u8
-    ensures { result ≡ (if differs first b then 64 else i) }
+// How many of N bytes pass a test, up to the first that does not: the least of N numbers, in a loop with one way out, so that the
+// compiler tests 16 bytes at once.
+pub(crate) fn passing<const N: u8, F: Fn(u8) -> bool>(s: &[u8], from: usize, passes: F) -> u8
+    requires fits { from + N ≤ length s.now }
+    requires callable { F.IsAlwaysCallable passes }
+    ensures { (result ≤ N) × ((j : ℕ) → from ≤ j → j < from + result → F.post passes (slice_index s.now j) true) }
 {
-    if b == first {
-        return i;
-    }
-    64
-}
-
-// How many of 64 bytes come before the first that is `first`: the least of 64 numbers, as in `nmea::block`.
-fn find_in_block(s: &[u8], from: usize, first: u8) -> u8
-    requires { from + 64 ≤ length s.now }
-    ensures { (result ≤ 64) × Each (differs first) from (from + result) s.now }
-{
-    let mut n: u8 = 64;
-    let mut i: u8 = 0;
-    while i < 64 {
-        n = numbers::min_u8(n, found_at(i, s[from + i as usize], first));
-        i += 1;
+    let mut n = N;
+    for i in 0..N {
+        n = n.min(if passes(s[from + i as usize]) { N } else { i });
     }
     n
 }
@@ -30,34 +20,29 @@ fn find_in_block(s: &[u8], from: usize, first: u8) -> u8
 fn find_in_blocks(s: &[u8], first: u8) -> usize
     ensures { (result ≤ length s.now) × Each (differs first) 0 result s.now }
 {
-    let mut k: usize = 0;
-    if s.len() < 64 {
-        return k;
-    }
     // In a storm of starts the first byte is one.
-    if s[0] == first {
-        return k;
+    if s.len() < 64 || s[0] == first {
+        return 0;
     }
-    while 64 <= s.len() - k {
-        let n = find_in_block(s, k, first) as usize;
+    let blocks = s.len() / 64;
+    for i in 0..blocks {
+        let n = passing::<64, _>(s, 64 * i, |b| b != first) as usize;
         if n < 64 {
-            return k + n;
+            return 64 * i + n;
         }
-        k += 64;
     }
-    k
+    64 * blocks
 }
 
 // How many bytes come before the first that is `first`.
 pub(crate) fn find_byte(s: &[u8], first: u8) -> usize
     ensures { result ≡ find_byte first s.now }
 {
-    let mut k = find_in_blocks(s, first);
-    while k < s.len() {
+    let passed = find_in_blocks(s, first);
+    for k in passed..s.len() {
         if s[k] == first {
             return k;
         }
-        k += 1;
     }
-    k
+    s.len()
 }

@@ -1,6 +1,7 @@
 // What a byte string begins with: a frame, a proper start of one, or neither.
 #![tactic(auto)]
 
+mod coded;
 mod find;
 pub mod frame_run;
 pub mod mgl;
@@ -11,14 +12,43 @@ mod shape;
 mod xor_padded;
 
 ghost use Rattle.std.specs.Prelude.{◌≡◌, ◌≤◌, length, take};
-ghost use Rattle.framing.specs.Rules.{no_rules};
 ghost use Rattle.framing.specs.Format.{format_of, layout_of, known};
 ghost use Rattle.framing.specs.Frame.{front};
 ghost use Rattle.framing.specs.FindStart.{find_start};
 ghost use Rattle.framing.specs.Growth.{Grown};
 
+use coded::Coded;
+
+// The formats, and what every other number names.
+#[derive(Clone, Copy, Debug, PartialEq, Eq)]
+pub enum Format {
+    // The MGL EFIS feed.
+    Mgl,
+    // The OnFlight log.
+    Onflight,
+    // NMEA with the LARUS sentences.
+    Nmea,
+    // No format: no shape, no frame and no byte between a head and a tail.
+    Unknown,
+}
+
+// Document 01's numbers of the formats.
+impl From<u32> for Format {
+    ghost from_gives = { λ n f. f ≡ format_of n };
+
+    #[tactic(auto, unfolding(crate::specs::Format::format_of))]
+    fn from(number: u32) -> Format {
+        match number {
+            1 => Format::Mgl,
+            2 => Format::Onflight,
+            3 => Format::Nmea,
+            _ => Format::Unknown,
+        }
+    }
+}
+
 // Why the bytes from a position on are no frame, by the earliest byte at which they stop being the start of a shape.
-#[derive(Clone, Copy)]
+#[derive(Clone, Copy, Debug, PartialEq, Eq)]
 pub enum Reason {
     StartByte,
     SecondByte,
@@ -31,7 +61,8 @@ pub enum Reason {
 }
 
 // What the bytes from a position on are to the shapes of a format; no checksum is looked at.
-#[derive(Clone, Copy)]
+// Kept: three cases, one of them with a reason, where Option has two; `WholeMeans` and `StartMeans` of specs/Meaning.antt name them.
+#[derive(Clone, Copy, Debug, PartialEq, Eq)]
 pub enum Scanned {
     // They begin with a whole shape of so many bytes.
     Whole(usize),
@@ -42,7 +73,8 @@ pub enum Scanned {
 }
 
 // What the bytes from a position on begin with.
-#[derive(Clone, Copy)]
+// Kept: three cases, as above; `FrontExactly` of specs/Meaning.antt names them.
+#[derive(Clone, Copy, Debug, PartialEq, Eq)]
 pub enum Found {
     // A frame of so many bytes.
     Frame(usize),
@@ -53,10 +85,8 @@ pub enum Found {
 }
 
 // The numbers of a format.
-#[derive(Clone, Copy)]
+#[derive(Clone, Copy, Debug, PartialEq, Eq)]
 pub struct Layout {
-    // Whether it is a format at all; if not, the other numbers are 0.
-    pub known: bool,
     // The byte that every frame starts with.
     pub first: u8,
     // How many bytes the shortest frame has, and the longest.
@@ -68,7 +98,8 @@ pub struct Layout {
 }
 
 // What more bytes make of a proper start.
-#[derive(Clone, Copy)]
+// Kept: three cases, as above; the definition `Grown` names them.
+#[derive(Clone, Copy, Debug, PartialEq, Eq)]
 pub enum Growth {
     // A proper start again.
     Grows,
@@ -81,81 +112,72 @@ pub enum Growth {
 // ---- The formats, each in a file of its own. `layout_of`, `front_within` and `find_start` have a row for each, `growth_of` may have one, and
 // no other code of this crate matches on the format.
 
-fn no_layout() -> Layout
-    ensures { result ≡ no_rules.layout }
-{
-    Layout {
-        known: false,
-        first: 0,
-        shortest: 0,
-        longest: 0,
-        head: 0,
-        tail: 0,
-    }
-}
-
-pub fn layout_of(format: u32) -> Layout
-    ensures { result ≡ layout_of (format_of format) }
+// The numbers of a format, where it is known.
+#[tactic(auto, unfolding(crate::specs::Format::layout_of))]
+pub fn layout_of(format: Format) -> Option<Layout>
+    ensures { result ≡ layout_of format }
 {
     match format {
-        1 => mgl::layout(),
-        2 => onflight::layout(),
-        3 => nmea::layout(),
-        _ => no_layout(),
+        Format::Mgl => Some(mgl::Frames::layout()),
+        Format::Onflight => Some(onflight::Frames::layout()),
+        Format::Nmea => Some(nmea::Frames::layout()),
+        Format::Unknown => None,
     }
 }
 
-// What the first `end` bytes begin with, for every format number.
-fn front_within(format: u32, s: &[u8], end: usize) -> Found
+// What the first `end` bytes begin with, for every format.
+#[tactic(auto, using(crate::proofs::FrameLaws::no_front))]
+fn front_within(format: Format, s: &[u8], end: usize) -> Found
     requires { end ≤ length s.now }
-    ensures { result ≡ front (format_of format) (take end s.now) }
+    ensures { result ≡ front format (take end s.now) }
 {
     match format {
-        1 => mgl::front(&s[..end]),
-        2 => onflight::front(&s[..end]),
-        3 => nmea::front(s, end),
-        _ => shape::nothing(end),
+        Format::Mgl => coded::front::<mgl::Frames>(s, end),
+        Format::Onflight => coded::front::<onflight::Frames>(s, end),
+        Format::Nmea => coded::front::<nmea::Frames>(s, end),
+        Format::Unknown => shape::nothing(end),
     }
 }
 
 // What a slice begins with.
-pub fn front(format: u32, s: &[u8]) -> Found
-    ensures { result ≡ front (format_of format) s.now }
+pub fn front(format: Format, s: &[u8]) -> Found
+    ensures { result ≡ front format s.now }
 {
     front_within(format, s, s.len())
 }
 
 // How many bytes from the start on begin no shape of a format: a reading skips them one by one.
-pub fn find_start(format: u32, s: &[u8]) -> usize
-    ensures { result ≡ find_start (format_of format) s.now }
+#[tactic(auto, unfolding(crate::specs::Format::known))]
+pub fn find_start(format: Format, s: &[u8]) -> usize
+    ensures { result ≡ find_start format s.now }
 {
     match format {
-        1 => find::find_byte(s, mgl::FIRST),
-        2 => find::find_byte(s, onflight::FIRST),
-        3 => find::find_byte(s, nmea::FIRST),
-        _ => s.len(),
+        Format::Mgl => coded::find_start::<mgl::Frames>(s),
+        Format::Onflight => coded::find_start::<onflight::Frames>(s),
+        Format::Nmea => coded::find_start::<nmea::Frames>(s),
+        Format::Unknown => s.len(),
     }
 }
 
 // What `bytes` make of the first `end` bytes of s, if they follow them. A format without a row says nothing, and is only slower.
-pub fn growth_of(format: u32, s: &[u8], end: usize, bytes: &[u8]) -> Growth
-    ensures { Grown (format_of format) (take end s.now) bytes.now result }
+pub fn growth_of(format: Format, s: &[u8], end: usize, bytes: &[u8]) -> Growth
+    ensures { Grown format (take end s.now) bytes.now result }
 {
     if s.len() < end {
         return Growth::Unsaid;
     }
     match format {
-        1 => mgl::growth_of(&s[..end], bytes.len()),
-        2 => onflight::growth_of(&s[..end], bytes.len()),
-        3 => nmea::growth_of(s, end, bytes),
-        _ => Growth::Unsaid,
+        Format::Mgl => coded::growth_of::<mgl::Frames>(&s[..end], bytes.len()),
+        Format::Onflight => coded::growth_of::<onflight::Frames>(&s[..end], bytes.len()),
+        Format::Nmea => nmea::growth_of(s, end, bytes),
+        Format::Unknown => Growth::Unsaid,
     }
 }
 
 // Whether a format is one of these.
-pub fn is_known(format: u32) -> bool
-    ensures { result ≡ known (format_of format) }
+#[tactic(auto, unfolding(crate::specs::Format::layout_of, crate::specs::Format::known))]
+pub fn is_known(format: Format) -> bool
+    ensures { result ≡ known format }
 {
-    let l = layout_of(format);
-    l.known
+    layout_of(format).is_some()
 }

@@ -1,36 +1,25 @@
 // NMEA sentences: `$`, a body of 1 to 76 bytes, `*`, two digits, CR, LF.
-ghost use Rattle.std.specs.Prelude.{◌≡◌, suc, ◌+◌, ◌-◌, ◌*◌, ◌<◌, ◌≤◌, true, length, take, drop, if◌then◌else◌, ◌==◌, nat_lt};
+ghost use Rattle.std.specs.Prelude.{◌≡◌, suc, ◌+◌, ◌-◌, ◌*◌, ◌<◌, ◌≤◌, true, length, take, drop, if◌then◌else◌, ◌==◌, nat_lt, IfSome};
 ghost use Rattle.framing.specs.declared.Scanned.TheVariants.{Partial, Broken};
 ghost use Rattle.framing.specs.declared.Found.TheVariants.{Frame};
 ghost use Rattle.framing.specs.declared.Reason.TheVariants.{BodyTooLong};
-ghost use Rattle.framing.specs.Nmea.{permitted, hex_digit, hex_value, comma_count, nmea_rules};
-ghost use Rattle.framing.specs.Format.{nmea, shortest, pending_bound, good};
-ghost use Rattle.framing.specs.Shape.{scan_from, scan};
+ghost use Rattle.framing.specs.Nmea.{permitted, hex_digit, hex_value, comma_count};
+ghost use Rattle.framing.specs.declared.Format.TheVariants.{Nmea};
+ghost use Rattle.framing.specs.Format.{shortest, pending_bound, good};
+ghost use Rattle.framing.specs.Shape.{scan_from};
 ghost use Rattle.framing.specs.Frame.{front};
 ghost use Rattle.framing.specs.Growth.{Grown};
 ghost use Rattle.framing.specs.Private.{ending_byte, Permitted, EndedBy, Reached, Stops};
 ghost use Rattle.framing.specs.Rules.{part};
 
-use super::{Found, Growth, Layout, Reason, Scanned, rows, shape, xor_padded};
+use super::coded::Coded;
+use super::{Growth, Layout, Reason, Scanned, find, rows, shape, xor_padded};
 
 // The byte that every frame starts with.
-pub(crate) const FIRST: u8 = b'$';
+const FIRST: u8 = b'$';
 
 // The longest frame.
 pub const LONGEST: u32 = 82;
-
-pub(crate) fn layout() -> Layout
-    ensures { result ≡ nmea_rules.layout }
-{
-    Layout {
-        known: true,
-        first: FIRST,
-        shortest: 7,
-        longest: LONGEST,
-        head: 1,
-        tail: 5,
-    }
-}
 
 // ---- the shape
 
@@ -67,12 +56,12 @@ fn is_digit(b: u8) -> bool
 }
 
 // Whether a byte may follow m bytes of a sentence's end.
+#[tactic(auto, unfolding(crate::specs::Private::ending_byte))]
 fn may_end(m: usize, b: u8) -> bool
     ensures { result ≡ ending_byte m b }
 {
     match m {
-        1 => is_digit(b),
-        2 => is_digit(b),
+        1 | 2 => is_digit(b),
         3 => b == 0x0D,
         _ => b == 0x0A,
     }
@@ -81,46 +70,25 @@ fn may_end(m: usize, b: u8) -> bool
 // The end of a sentence after its `*`, which is just before `from`.
 fn ending(s: &[u8], from: usize) -> Scanned
     requires { (0 < from) × (from ≤ length s.now) }
-    ensures { result ≡ scan_from nmea from 1 (drop from s.now) }
+    ensures { result ≡ scan_from Nmea from 1 (drop from s.now) }
 {
-    let mut k = from;
-    let mut m: usize = 1;
-    while k < s.len() {
-        if !may_end(m, s[k]) {
+    for (m, b) in s[from..].iter().enumerate() {
+        if !may_end(m + 1, *b) {
             return Scanned::Broken(Reason::Ending);
         }
-        k += 1;
-        if m == 4 {
-            return Scanned::Whole(k);
+        if m == 3 {
+            return Scanned::Whole(from + 4);
         }
-        m += 1;
     }
     Scanned::Partial
 }
 
-// i, where byte i of a block may not be in a body, and else the block's length.
-fn refused_at(i: u8, b: u8) -> u8
-    ensures { result ≡ (if permitted b then 32 else i) }
-{
-    if is_permitted(b) {
-        return 32;
-    }
-    i
-}
-
-// How many of 32 bytes may be in a body, up to the first that may not: the least of 32 numbers, in a loop with one way out, so
-// that the compiler tests 16 bytes at once.
+// How many of 32 bytes may be in a body, up to the first that may not.
 fn block(s: &[u8], from: usize) -> u8
     requires { from + 32 ≤ length s.now }
     ensures { (result ≤ 32) × Permitted from (from + result) s.now }
 {
-    let mut n: u8 = 32;
-    let mut i: u8 = 0;
-    while i < 32 {
-        n = numbers::min_u8(n, refused_at(i, s[from + i as usize]));
-        i += 1;
-    }
-    n
+    find::passing::<32, _>(s, from, is_permitted)
 }
 
 // A place that the body reaches, block by block. The last block is the last 32 bytes, some of which may be passed already.
@@ -140,18 +108,18 @@ fn blocks(s: &[u8]) -> usize
     if first < 32 {
         return 1 + first;
     }
-    let last = s.len() - 32;
-    let mut k: usize = 33;
-    while k < s.len() && k < 77 {
-        let from = numbers::min_usize(k, last);
+    for i in 1..3 {
+        let k = 1 + 32 * i;
+        if s.len() <= k {
+            return s.len();
+        }
+        let from = k.min(s.len() - 32);
         let n = block(s, from) as usize;
         if n < 32 {
             return from + n;
         }
-        // Not by n: then the next block is loaded later.
-        k = from + 32;
     }
-    k
+    s.len().min(97)
 }
 
 // A place that the body reaches: at or after `end`, or at a byte that may not be in a body, or somewhere after place 77.
@@ -160,14 +128,14 @@ fn body(s: &[u8], end: usize) -> usize
     requires { (0 < end) × (end ≤ length s.now) }
     ensures { Reached result s.now × (result < end → Stops result s.now) }
 {
-    let mut k = blocks(s);
-    while k <= 77 && k < end {
+    let reached = blocks(s);
+    let last = end.min(78);
+    for k in reached..last {
         if !is_permitted(s[k]) {
             return k;
         }
-        k += 1;
     }
-    k
+    reached.max(last)
 }
 
 // What a body is that goes on for n bytes.
@@ -180,34 +148,10 @@ fn unended(n: usize) -> Scanned
     Scanned::Partial
 }
 
-fn scan(s: &[u8], end: usize) -> Scanned
-    requires { end ≤ length s.now }
-    ensures { result ≡ scan nmea (take end s.now) }
-{
-    let line = &s[..end];
-    if line.len() == 0 {
-        return Scanned::Partial;
-    }
-    if line[0] != b'$' {
-        return Scanned::Broken(Reason::StartByte);
-    }
-    let k = body(s, end);
-    // A branch: with the lesser of the two places, sentences in long pieces took 3 % longer.
-    if line.len() <= k {
-        return unended(line.len());
-    }
-    if 77 < k {
-        return Scanned::Broken(Reason::BodyTooLong);
-    }
-    if line[k] == b'*' && 1 < k {
-        return ending(line, k + 1);
-    }
-    Scanned::Broken(Reason::BodyByte)
-}
-
 // ---- the checksum
 
 // The value of a hexadecimal digit. Digits and letters are told apart by what to take away, and not by a branch.
+#[tactic(auto, unfolding(crate::specs::Nmea::hex_value))]
 fn hex_value(b: u8) -> u8
     ensures { result ≡ hex_value b }
 {
@@ -226,42 +170,69 @@ fn digits_write(high: u8, low: u8, x: u8) -> bool
 }
 
 // Whether the checksum of a sentence is right.
+#[tactic(auto, unfolding(crate::specs::Format::good, crate::specs::Format::shortest))]
 fn checksum_ok_alone(s: &[u8]) -> bool
-    requires { shortest nmea ≤ length s.now }
-    ensures { result ≡ good nmea s.now }
+    requires { shortest Nmea ≤ length s.now }
+    ensures { result ≡ good Nmea s.now }
 {
     let e = s.len() - 5;
     digits_write(s[e + 1], s[e + 2], checksum::xor8(&s[1..e]))
 }
 
 // Whether the checksum of the sentence of n bytes at the start of s is right, where s has more than 80 bytes.
+#[tactic(auto, unfolding(crate::specs::Format::shortest, crate::specs::Format::pending_bound))]
 fn checksum_ok_in_line(s: &[u8], n: usize) -> bool
-    requires { (shortest nmea ≤ n) × (n ≤ suc (pending_bound nmea)) × (n ≤ length s.now) × (80 < length s.now) }
-    ensures { result ≡ good nmea (take n s.now) }
+    requires { (shortest Nmea ≤ n) × (n ≤ suc (pending_bound Nmea)) × (n ≤ length s.now) × (80 < length s.now) }
+    ensures { result ≡ good Nmea (take n s.now) }
 {
     digits_write(s[n - 4], s[n - 3], xor_padded::xor_first(&s[1..], n - 6))
 }
 
-// Whether the checksum of the sentence of n bytes at the start of s is right.
-fn checksum_ok(s: &[u8], n: usize) -> bool
-    requires { (shortest nmea ≤ n) × (n ≤ suc (pending_bound nmea)) × (n ≤ length s.now) }
-    ensures { result ≡ good nmea (take n s.now) }
-{
-    if 80 < s.len() {
-        return checksum_ok_in_line(s, n);
-    }
-    checksum_ok_alone(&s[..n])
-}
+// ---- the code of the format
 
-// What the first `end` bytes begin with.
-pub(crate) fn front(s: &[u8], end: usize) -> Found
-    requires { end ≤ length s.now }
-    ensures { result ≡ front nmea (take end s.now) }
-{
-    match scan(s, end) {
-        Scanned::Whole(n) => shape::judged(checksum_ok(s, n), n),
-        Scanned::Partial => Found::Start,
-        Scanned::Broken(r) => Found::Neither(r),
+pub(crate) struct Frames;
+
+impl Coded for Frames {
+    ghost format = { Nmea };
+
+    #[tactic(auto, unfolding(crate::specs::Format::layout_of))]
+    fn layout() -> Layout {
+        Layout {
+            first: FIRST,
+            shortest: 7,
+            longest: LONGEST,
+            head: 1,
+            tail: 5,
+        }
+    }
+
+    fn scan(s: &[u8], end: usize) -> Scanned {
+        let line = &s[..end];
+        if line.len() == 0 {
+            return Scanned::Partial;
+        }
+        if line[0] != FIRST {
+            return Scanned::Broken(Reason::StartByte);
+        }
+        let k = body(s, end);
+        // A branch: with the lesser of the two places, sentences in long pieces took 3 % longer.
+        if line.len() <= k {
+            return unended(line.len());
+        }
+        if 77 < k {
+            return Scanned::Broken(Reason::BodyTooLong);
+        }
+        if line[k] == b'*' && 1 < k {
+            return ending(line, k + 1);
+        }
+        Scanned::Broken(Reason::BodyByte)
+    }
+
+    fn checksum_ok(s: &[u8], n: usize) -> bool {
+        if 80 < s.len() {
+            return checksum_ok_in_line(s, n);
+        }
+        checksum_ok_alone(&s[..n])
     }
 }
 
@@ -277,14 +248,7 @@ const REACH: usize = 108;
 fn are_permitted(s: &[u8]) -> bool
     ensures { result ≡ true → Permitted 0 (length s.now) s.now }
 {
-    let mut i: usize = 0;
-    while i < s.len() {
-        if !is_permitted(s[i]) {
-            return false;
-        }
-        i += 1;
-    }
-    true
+    s.iter().all(|b| is_permitted(*b))
 }
 
 // True only if the bytes from place 1 to `end` may be in a body. (`body` has one caller, so that the compiler inlines it.)
@@ -292,12 +256,11 @@ fn is_body(s: &[u8], end: usize) -> bool
     requires { (end ≤ 77) × (108 < length s.now) }
     ensures { result ≡ true → Permitted 1 end s.now }
 {
-    let mut k: usize = 1;
-    while k < end {
+    for i in 0..3 {
+        let k = 1 + 32 * i;
         let n = block(s, k) as usize;
-        k += n;
-        if n < 32 {
-            return end <= k;
+        if n < 32 || end <= k + n {
+            return end <= k + n;
         }
     }
     true
@@ -306,8 +269,9 @@ fn is_body(s: &[u8], end: usize) -> bool
 // What more bytes make of the first `end` of s. It says something only of a body without its end, in a slice that is longer than `REACH`.
 pub(crate) fn growth_of(s: &[u8], end: usize, bytes: &[u8]) -> Growth
     requires { end ≤ length s.now }
-    ensures { Grown nmea (take end s.now) bytes.now result }
+    ensures { Grown Nmea (take end s.now) bytes.now result }
 {
+    // One test behind the other: joined by `||`, they took a quarter longer where the first byte is no `$`.
     if end == 0 {
         return Growth::Unsaid;
     }
@@ -320,7 +284,7 @@ pub(crate) fn growth_of(s: &[u8], end: usize, bytes: &[u8]) -> Growth
     if !is_body(s, end) {
         return Growth::Unsaid;
     }
-    if numbers::min_usize(FEW, 77 - end) < bytes.len() {
+    if FEW.min(77 - end) < bytes.len() {
         return Growth::Waits;
     }
     if are_permitted(bytes) {
@@ -351,27 +315,18 @@ fn is_end(s: &[u8], at: usize, x: u8) -> bool
     s[at + 4] == 0x0A
 }
 
-// How many fields a sentence has: one more than commas. 0 says nothing: s is no sentence, or its body has fewer than 8 bytes.
+// How many fields a sentence has: one more than commas. None says nothing: s is no sentence, or its body has fewer than 8 bytes.
 // The sentence is tested from both ends, which is faster than looking for its end.
-pub fn sentence_fields(s: &[u8]) -> usize
-    ensures { 0 < result → (front nmea s.now ≡ Frame (length s.now)) × (result ≡ suc (comma_count (part 1 (length s.now - 5) s.now))) }
+pub fn sentence_fields(s: &[u8]) -> Option<usize>
+    ensures { IfSome result (λ n. (front Nmea s.now ≡ Frame (length s.now)) × (n ≡ suc (comma_count (part 1 (length s.now - 5) s.now)))) }
 {
-    if s.len() < 14 {
-        return 0;
-    }
-    if 82 < s.len() {
-        return 0;
-    }
-    if s[0] != FIRST {
-        return 0;
+    if s.len() < 14 || 82 < s.len() || s[0] != FIRST {
+        return None;
     }
     let e = s.len() - 5;
     let p = rows::pass(&s[1..e]);
-    if p.refused != 0 {
-        return 0;
+    if p.refused != 0 || !is_end(s, e, p.xor) {
+        return None;
     }
-    if !is_end(s, e, p.xor) {
-        return 0;
-    }
-    p.commas as usize + 1
+    Some(p.commas as usize + 1)
 }

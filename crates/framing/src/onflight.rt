@@ -1,103 +1,74 @@
 // OnFlight frames: 42 46, version 1, payload length 152, and as many bytes more.
-ghost use Rattle.std.specs.Prelude.{◌≡◌, ◌≤◌, length};
-ghost use Rattle.framing.specs.Onflight.{onflight_rules};
-ghost use Rattle.framing.specs.Format.{onflight, shortest, good};
-ghost use Rattle.framing.specs.Shape.{scan};
-ghost use Rattle.framing.specs.Private.{Needs, GrownBy};
-ghost use Rattle.framing.specs.Frame.{front};
+ghost use Rattle.framing.specs.declared.Format.TheVariants.{Onflight};
 
-use super::{Found, Growth, Layout, Reason, Scanned, shape};
+use super::coded::{Coded, Counted};
+use super::{Layout, Reason, Scanned, shape};
 
 // The byte that every frame starts with.
-pub(crate) const FIRST: u8 = 0x42;
+const FIRST: u8 = 0x42;
+
+// The three behind it: a second fixed one, the version, the payload's length.
+const SECOND: u8 = 0x46;
+
+const VERSION: u8 = 0x01;
+
+const PAYLOAD: u8 = 0x98;
 
 // The longest frame.
 pub const LONGEST: u32 = 158;
 
-pub(crate) fn layout() -> Layout
-    ensures { result ≡ onflight_rules.layout }
-{
-    Layout {
-        known: true,
-        first: FIRST,
-        shortest: 158,
-        longest: LONGEST,
-        head: 4,
-        tail: 2,
+// The code of the format.
+pub(crate) struct Frames;
+
+impl Coded for Frames {
+    ghost format = { Onflight };
+
+    #[tactic(auto, unfolding(crate::specs::Format::layout_of))]
+    fn layout() -> Layout {
+        Layout {
+            first: FIRST,
+            shortest: 158,
+            longest: LONGEST,
+            head: 4,
+            tail: 2,
+        }
+    }
+
+    fn scan(s: &[u8], end: usize) -> Scanned {
+        let line = &s[..end];
+        let opening = shape::sync(line, FIRST, SECOND);
+        let Scanned::Whole(_) = opening else {
+            return opening;
+        };
+        if line.len() < 3 {
+            return Scanned::Partial;
+        }
+        if line[2] != VERSION {
+            return Scanned::Broken(Reason::HeaderByte);
+        }
+        if line.len() < 4 {
+            return Scanned::Partial;
+        }
+        if line[3] != PAYLOAD {
+            return Scanned::Broken(Reason::HeaderByte);
+        }
+        shape::counted(line.len(), LONGEST as usize)
+    }
+
+    #[tactic(auto, unfolding(crate::specs::Format::good, crate::specs::Format::shortest))]
+    fn checksum_ok(s: &[u8], n: usize) -> bool {
+        let frame = &s[..n];
+        let e = frame.len() - 2;
+        let sums = checksum::fletcher16(&frame[..e]);
+        sums.plain == frame[e] && sums.weighted == frame[e + 1]
     }
 }
 
-fn scan(s: &[u8]) -> Scanned
-    ensures { result ≡ scan onflight s.now }
-{
-    let opening = shape::sync(s, 0x42, 0x46);
-    let Scanned::Whole(_) = opening else {
-        return opening;
-    };
-    if s.len() < 3 {
-        return Scanned::Partial;
+impl Counted for Frames {
+    fn need(s: &[u8]) -> Option<usize> {
+        if s[0] != FIRST || s[1] != SECOND || s[2] != VERSION || s[3] != PAYLOAD {
+            return None;
+        }
+        Some(LONGEST as usize)
     }
-    if s[2] != 0x01 {
-        return Scanned::Broken(Reason::HeaderByte);
-    }
-    if s.len() < 4 {
-        return Scanned::Partial;
-    }
-    if s[3] != 0x98 {
-        return Scanned::Broken(Reason::HeaderByte);
-    }
-    shape::counted(s.len(), LONGEST as usize)
-}
-
-// Whether the checksum of a whole OnFlight shape is right.
-fn checksum_ok(s: &[u8]) -> bool
-    requires { shortest onflight ≤ length s.now }
-    ensures { result ≡ good onflight s.now }
-{
-    let e = s.len() - 2;
-    let sums = checksum::fletcher16(&s[..e]);
-    if sums.plain != s[e] {
-        return false;
-    }
-    sums.weighted == s[e + 1]
-}
-
-pub(crate) fn front(s: &[u8]) -> Found
-    ensures { result ≡ front onflight s.now }
-{
-    match scan(s) {
-        Scanned::Whole(n) => shape::judged(checksum_ok(&s[..n]), n),
-        Scanned::Partial => Found::Start,
-        Scanned::Broken(r) => Found::Neither(r),
-    }
-}
-
-// How many bytes the frame has whose head s begins with; 0 where none is there.
-fn need(s: &[u8]) -> usize
-    requires { 4 ≤ length s.now }
-    ensures { Needs onflight s.now result }
-{
-    if s[0] != FIRST {
-        return 0;
-    }
-    if s[1] != 0x46 {
-        return 0;
-    }
-    if s[2] != 0x01 {
-        return 0;
-    }
-    if s[3] != 0x98 {
-        return 0;
-    }
-    LONGEST as usize
-}
-
-// What so many bytes more make of a start.
-pub(crate) fn growth_of(s: &[u8], more: usize) -> Growth
-    ensures { GrownBy onflight s.now more result }
-{
-    if s.len() < 4 {
-        return Growth::Unsaid;
-    }
-    shape::told(s.len(), more, need(s))
 }

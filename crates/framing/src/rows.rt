@@ -1,11 +1,12 @@
 // One pass over the body of a sentence, for speed: whether its bytes may be in a body, their exclusive or, and how many are commas.
-ghost use Rattle.std.specs.Prelude.{◌≡◌, ◌+◌, ◌≤◌, true, length, if◌then◌else◌, nat_eq, nat_lt};
+ghost use Rattle.std.specs.Prelude.{◌≡◌, ◌+◌, ◌≤◌, true, length, if◌then◌else◌};
 ghost use Rattle.framing.specs.Nmea.{permitted, comma};
 ghost use Rattle.framing.specs.Private.{Passes};
 
 use super::xor_padded;
 
 // What a pass finds: 0 refused bytes only if there is none.
+// Kept: an Option of the two other numbers in place of `refused` took `sentence_fields` from 46.7 to 54 nanoseconds a sentence.
 #[derive(Clone, Copy)]
 pub struct Passed {
     pub refused: u8,
@@ -13,33 +14,12 @@ pub struct Passed {
     pub commas: u8,
 }
 
-// 1 where two bytes are equal, and else 0.
-fn one_if(a: u8, b: u8) -> u8
-    ensures { result ≡ (if nat_eq a b then 1 else 0) }
-{
-    if a == b {
-        return 1;
-    }
-    0
-}
-
-// 1 where a is below b, and else 0.
-fn one_below(a: u8, b: u8) -> u8
-    ensures { result ≡ (if nat_lt a b then 1 else 0) }
-{
-    if a < b {
-        return 1;
-    }
-    0
-}
-
 // 1 for a byte that may not be in a body, and else 0. Both bounds are one test: bytes below the first are moved above the last.
 // It is a sum of numbers: where tests are joined, the compiler takes two bytes of a vector for each.
 fn refused_one(b: u8) -> u8
     ensures { result ≡ (if permitted b then 0 else 1) }
 {
-    let moved = std::num::wrapping_add_u8(b, 0xE0);
-    one_below(0x5E, moved) + one_if(b, b'$') + one_if(b, b'*')
+    u8::from(0x5E < b.wrapping_add(0xE0)) + u8::from(b == b'$') + u8::from(b == b'*')
 }
 
 // How many of three bytes may not be in a body.
@@ -53,7 +33,7 @@ fn refused_of(a: u8, b: u8, c: u8) -> u8
 fn commas_of(a: u8, b: u8, c: u8) -> u8
     ensures { (result ≤ 3) × (result ≡ comma a + comma b + comma c) }
 {
-    one_if(a, b',') + one_if(b, b',') + one_if(c, b',')
+    u8::from(a == b',') + u8::from(b == b',') + u8::from(c == b',')
 }
 
 // A body in rows of w bytes, which three rows hold. The last row is the last w bytes. The two before it may reach into it: there
@@ -64,12 +44,11 @@ fn rows(s: &[u8], w: u8) -> Passed
 {
     let last = s.len() - w as usize;
     let over = (128 - last) as u8;
-    let second = numbers::min_usize(w as usize, last);
+    let second = (w as usize).min(last);
     let mut refused: u8 = 0;
     let mut xor: u8 = 0;
     let mut commas: u8 = 0;
-    let mut i: u8 = 0;
-    while i < w {
+    for i in 0..w {
         let at = i as usize;
         let a = s[at];
         let b = s[second + at];
@@ -79,7 +58,6 @@ fn rows(s: &[u8], w: u8) -> Passed
         refused += refused_of(a, b, c);
         xor = xor ^ (x ^ y ^ c);
         commas += commas_of(x, y, c);
-        i += 1;
     }
     Passed {
         refused,

@@ -8,6 +8,7 @@ ghost use Rattle.framing.specs.Private.{sync_of, told_by};
 use super::{Found, Growth, Reason, Scanned};
 
 // The two fixed bytes that a binary frame starts with.
+#[tactic(auto, unfolding(crate::specs::Private::sync_of))]
 pub(crate) fn sync(s: &[u8], first: u8, second: u8) -> Scanned
     ensures { result ≡ sync_of first second s.now }
 {
@@ -56,7 +57,7 @@ pub(crate) fn judged(good: bool, n: usize) -> Found
     Found::Neither(Reason::Checksum)
 }
 
-// What `more` bytes make of n bytes whose frame has m bytes: fewer than m are a proper start. m is 0 where no frame is known.
+// What `more` bytes make of n bytes whose frame has m bytes: fewer than m are a proper start.
 pub(crate) fn told(n: usize, more: usize, m: usize) -> Growth
     ensures { result ≡ told_by n more m }
 {

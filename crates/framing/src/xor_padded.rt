@@ -7,10 +7,7 @@ ghost use Rattle.checksum.specs.Xor.{xor_of};
 pub(crate) fn kept(i: u8, over: u8, b: u8) -> u8
     ensures { result ≡ (if nat_lt ((i + over) % 256) 128 then b else 0) }
 {
-    if std::num::wrapping_add_u8(i, over) < 128 {
-        return b;
-    }
-    0
+    if i.wrapping_add(over) < 128 { b } else { 0 }
 }
 
 // The exclusive or of the first n of 80 bytes. All 80 are read, so that the loop has a fixed length; five in a turn, so that the
@@ -21,8 +18,7 @@ pub(crate) fn xor_first(s: &[u8], n: usize) -> u8
 {
     let over = (128 - n) as u8;
     let mut x: u8 = 0;
-    let mut i: u8 = 0;
-    while i < 16 {
+    for i in 0..16 {
         let at = i as usize;
         let column = kept(i, over, s[at])
             ^ kept(i + 16, over, s[at + 16])
@@ -30,7 +26,6 @@ pub(crate) fn xor_first(s: &[u8], n: usize) -> u8
             ^ kept(i + 48, over, s[at + 48])
             ^ kept(i + 64, over, s[at + 64]);
         x = x ^ column;
-        i += 1;
     }
     x
 }

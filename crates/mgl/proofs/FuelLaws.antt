@@ -9,22 +9,21 @@ use native.Mathlib.Omega.{arith}
 use lib.Dec.{eqb, ltb}
 use lib.IntN.{ℤ}
 use lib.ListN.{length, get_or, take, drop}
-use borrow.Author.Tests.{eq-eqb, ne_eqb, lt-ltb, le-ltb}
+use borrow.Author.Tests.{ne_eqb, lt-ltb, le-ltb}
 use mir.Syntax.{w32}
 use Rattle.numbers.specs.Low.{low, signed}
 use Rattle.numbers.proofs.Part.{part-byte, part_low}
 use Rattle.numbers.proofs.Signed.{small, below-zero}
-use Rattle.framing.specs.Format.{mgl, longest}
+use Rattle.framing.specs.declared.Format.TheVariants.{Mgl}
+use Rattle.std.specs.Prelude.{Result, Ok, Err, IsErrAnd}
 use Rattle.answer.specs.Answer.{Answer, given, refused, unless, refusal_number}
 use Rattle.content.specs.Body.{is_frame}
 use Rattle.answer.specs.declared.Refusal.{Refusal}
-use Rattle.content.specs.declared.NumberResult.{NumberResult}
-use Rattle.content.specs.declared.NumberResult.TheVariants.{Read, Refused}
-use Rattle.content.specs.Shared.{number_answer}
+use Rattle.content.specs.Shared.{judged}
+use Rattle.mgl.proofs.SizeLaws.{judged_short, judging}
 use Rattle.answer.proofs.AnswerLaws.{after, fails, not_done}
-use Rattle.content.proofs.BodyLaws.{frame-short}
 use Rattle.mgl.specs.declared.fuel.Tank.{Tank}
-use Rattle.mgl.specs.Fuel.{is_fuel, tanks, equals, count_agrees, tank_count_of, tank_at, no_tank, tank_of}
+use Rattle.mgl.specs.Fuel.{is_fuel, tanks, equals, count_agrees, tank_count_of, tank_at, no_tank, tank_answer, tank_of}
 
 -- a number below half is the signed number of n exactly where it is n
 same_number : (n k : ℕ) → k < 2 ^ 31 → equals (signed w32 n) k ≡ eqb n k
@@ -34,17 +33,12 @@ same_number n k h = go (dec_lt n (2 ^ 31))
     go (yes p) = ap (λ (z : ℤ). equals z k) (small w32 p)
     go (no p) = ap (λ (z : ℤ). equals z k) (below-zero w32 {n = n} (omega arith)) ∙ sym (ne_eqb n k (λ e. omega arith))
 
--- n is the body's first number; a frame is short, so the sign does not matter
-module _ (s : List ℕ) {n : ℕ} (h : is_frame mgl s ≡ true) (e : n ≡ low 4 s 8) where
-  count-test : count_agrees s ≡ eqb n (tanks s)
-  unfolding count_agrees tanks longest
-  count-test = rw (← e) (same_number n (tanks s) (omega (arith, frame-short mgl s h)))
+-- a frame is short, so the sign of the body's first number does not matter
+pub count_by_bits : (s : List ℕ) (r : Refusal) {u : Unit {0}} → Ok u ≡ judged (is_frame Mgl s) r → count_agrees s ≡ eqb (low 4 s 8) (tanks s)
+unfolding count_agrees tanks
+count_by_bits s r e = same_number (low 4 s 8) (tanks s) (omega (arith, judged_short s r e))
 
-  pub count-right : n ≡ tanks s → count_agrees s ≡ true
-  count-right d = count-test ∙ eq-eqb n (tanks s) d
-
-  pub count-wrong : (n ≡ tanks s → ⊥) → count_agrees s ≡ false
-  count-wrong d = count-test ∙ ne_eqb n (tanks s) d
+pub ruleset counting = (judging, count_by_bits)
 
 -- the n bytes from `at` on are those of tank i: their numbers are the tank
 module _ (s : List ℕ) (i : ℕ) {at n : ℕ} (a : at ≡ 12 + 8 * i) (b : n ≡ 8) where
@@ -65,7 +59,8 @@ module _ (s : List ℕ) (i : ℕ) {at n : ℕ} (a : at ≡ 12 + 8 * i) (b : n �
         part_low s at n 2 6 {m = 8 + (4 + 8 * i + 6)} (omega arith) (omega arith),
       )
 
--- where the count is not refused the tank's answer goes on with it, and else both refuse alike
+-- ---- the answer for a tank, from that for the count: where the count is not refused it goes on, and else both refuse alike
+
 abbrev onward : Answer ℕ → (ℕ → Answer Tank) → Answer Tank
 onward a f = cond (eqb a.number 0) (f a.value) (refused no_tank a.number)
 
@@ -83,36 +78,33 @@ count_most true true false k = omega arith
 count_most true true true k = omega arith
 
 module _ (s : List ℕ) (i : ℕ) where
-  abbrev judged : ℕ → Answer Tank
-  judged k = unless no_tank (ltb i k) 9 (given (tank_at s i))
+  abbrev indexed : ℕ → Answer Tank
+  indexed k = unless no_tank (ltb i k) 9 (given (tank_at s i))
 
-  refused-on : (r : Refusal) → refused no_tank (refusal_number r) ≡ onward (number_answer (Refused r)) judged
-  refused-on r = rw (not_done r)
+  goes_on : onward (tank_count_of s) indexed ≡ tank_of s i
+  unfolding tank_count_of tank_of
+  goes_on = same_tests (is_frame Mgl s) (is_fuel s) (count_agrees s) (tanks s) indexed
 
-  -- a is what `read_count` answered
-  module _ (a : NumberResult) (e : number_answer a ≡ tank_count_of s) where
-    goes_on : onward (number_answer a) judged ≡ tank_of s i
-    unfolding tank_count_of tank_of
-    goes_on = rw e (same_tests (is_frame mgl s) (is_fuel s) (count_agrees s) (tanks s) judged)
+  -- q is the refusal of the count, which x hands on
+  pub tank_refused : (q : Refusal) (x : Result Tank Refusal) → IsErrAnd x (λ y. y ≡ q) → refused 0 (refusal_number q) ≡ tank_count_of s
+      → tank_answer x ≡ tank_of s i
+  tank_refused q (Ok t) h e = absurd h
+  tank_refused q (Err y) h e = rw (← goes_on, ← e, not_done) (ap (λ (z : Refusal). refused no_tank (refusal_number z)) h)
 
-    pub tank-refused : {r : Refusal} → a ≡ Refused r → refused no_tank (refusal_number r) ≡ tank_of s i
-    tank-refused {r} d = refused-on r ∙ (rw d at goes_on)
+  -- k is the count
+  module _ (k : ℕ) (e : given k ≡ tank_count_of s) where
+    counted-on : indexed k ≡ tank_of s i
+    counted-on = rw (← e) at goes_on
 
-    module _ {k : ℕ} (d : a ≡ Read k) where
-      counted-on : judged k ≡ tank_of s i
-      counted-on = rw d at goes_on
+    pub tank_inside : i < k → 12 + 8 * i + 8 ≤ length s
+    unfolding tank_count_of tanks
+    tank_inside h =
+        let v : k ≡ (tank_count_of s).value = ap (λ (x : Answer ℕ). x.value) e in
+        let m : (tank_count_of s).value ≤ tanks s = count_most (is_frame Mgl s) (is_fuel s) (count_agrees s) (tanks s) in
+        omega arith
 
-      pub tank-inside : i < k → 12 + 8 * i + 8 ≤ length s
-      unfolding tank_count_of tanks
-      tank-inside h =
-          let v : k ≡ (tank_count_of s).value = ap (λ (x : Answer ℕ). x.value) (rw d at e) in
-          let m : (tank_count_of s).value ≤ tanks s = count_most (is_frame mgl s) (is_fuel s) (count_agrees s) (tanks s) in
-          omega arith
+    pub tank_past : k ≤ i → refused no_tank 9 ≡ tank_of s i
+    tank_past h = fails _ (le-ltb i k h) ∙ counted-on
 
-      pub tank-past : k ≤ i → refused no_tank 9 ≡ tank_of s i
-      tank-past h = fails _ (le-ltb i k h) ∙ counted-on
-
-      pub tank-there : {t : Tank} → i < k → t ≡ tank_at s i → given t ≡ tank_of s i
-      tank-there h q = after _ _ (lt-ltb i k h) (ap given q) ∙ counted-on
-
-pub ruleset tank-answers = (tank-refused, tank-past, tank-there)
+    pub tank_there : {t : Tank} → i < k → t ≡ tank_at s i → given t ≡ tank_of s i
+    tank_there h q = after _ _ (lt-ltb i k h) (ap given q) ∙ counted-on

@@ -1,6 +1,6 @@
 -- The clock of an MGL frame (docs/FORMATS.md, "MGL content").
 use Rattle.std.specs.Prelude.{ℕ, List}
-use Rattle.framing.specs.Format.{mgl}
+use Rattle.framing.specs.declared.Format.TheVariants.{Mgl}
 use Rattle.calendar.specs.declared.DateTime.{DateTime}
 use Rattle.calendar.specs.declared.Clock.{Clock}
 use Rattle.calendar.specs.Clocks.{ClockValues, clock_values, binary_clock_of}
@@ -27,6 +27,6 @@ mgl_clock t = binary_clock_of t 2000 99
 -- the clock of a frame: type 1, L = 24, 44 bytes
 unfoldable pub mgl_clock_of : List ℕ → Answer ClockValues
 mgl_clock_of s =
-    unless no_clock (is_frame mgl s) 7
+    unless no_clock (is_frame Mgl s) 7
     (unless no_clock (is_message 1 44 s) 8
     (given (clock_values (mgl_clock (mgl_date_time s)))))

@@ -1,13 +1,12 @@
 -- The tanks of a fuel frame (docs/FORMATS.md, "MGL content").
-use Rattle.std.specs.Prelude.{ℕ, ◌+◌, ◌-◌, ◌*◌, ◌/◌, ◌%◌, Bool, false, ◌&&◌, List, eqb, leb, ltb, ℤ, pos, negsuc, length, get_or}
+use Rattle.std.specs.Prelude.{ℕ, ◌+◌, ◌-◌, ◌*◌, ◌/◌, ◌%◌, Bool, false, ◌&&◌, List, eqb, leb, ltb, ℤ, pos, negsuc, length, get_or, Result}
 use Rattle.std.specs.Int.{w32}
 use Rattle.numbers.specs.Low.{signed}
-use Rattle.framing.specs.Format.{mgl}
-use Rattle.answer.specs.Answer.{Answer, given, refused, unless, refusal_number}
+use Rattle.framing.specs.declared.Format.TheVariants.{Mgl}
+use Rattle.answer.specs.declared.Refusal.{Refusal}
+use Rattle.answer.specs.Answer.{Answer, given, unless, answer_of}
 use Rattle.content.specs.Body.{is_frame}
 use Rattle.mgl.specs.declared.fuel.Tank.{Tank}
-use Rattle.mgl.specs.declared.fuel.TankResult.{TankResult}
-use Rattle.mgl.specs.declared.fuel.TankResult.TheVariants.{Read, Refused}
 use Rattle.mgl.specs.Header.{body_byte, body_low}
 
 -- type 11, version 1, and a body of 4 + 8k bytes, k from 1 to 32: 12 bytes of the frame are not the body's
@@ -31,7 +30,7 @@ count_agrees s = equals (signed w32 (body_low 4 s 0)) (tanks s)
 
 unfoldable pub tank_count_of : List ℕ → Answer ℕ
 tank_count_of s =
-    unless 0 (is_frame mgl s) 7
+    unless 0 (is_frame Mgl s) 7
     (unless 0 (is_fuel s) 8
     (unless 0 (count_agrees s) 9
     (given (tanks s))))
@@ -48,13 +47,12 @@ tank_at s i = record {
 abbrev pub no_tank : Tank
 no_tank = record { level = pos 0; kind = 0; on = 0; sensors = 0 }
 
-abbrev pub tank_answer : TankResult → Answer Tank
-tank_answer (Read t) = given t
-tank_answer (Refused r) = refused no_tank (refusal_number r)
+abbrev pub tank_answer : Result Tank Refusal → Answer Tank
+tank_answer r = answer_of no_tank (λ t. t) r
 
 unfoldable pub tank_of : List ℕ → ℕ → Answer Tank
 tank_of s i =
-    unless no_tank (is_frame mgl s) 7
+    unless no_tank (is_frame Mgl s) 7
     (unless no_tank (is_fuel s) 8
     (unless no_tank (count_agrees s) 9
     (unless no_tank (ltb i (tanks s)) 9

@@ -1,13 +1,12 @@
 -- The fields of a GPS frame (docs/FORMATS.md, "MGL content").
-use Rattle.std.specs.Prelude.{ℕ, Bool, false, not, ◌||◌, List, eqb, leb, pos}
+use Rattle.std.specs.Prelude.{ℕ, Bool, false, not, ◌||◌, List, eqb, leb, pos, Result}
 use Rattle.std.specs.Int.{w16, w32}
 use Rattle.numbers.specs.Low.{signed}
-use Rattle.framing.specs.Format.{mgl}
-use Rattle.answer.specs.Answer.{Answer, given, refused, unless, refusal_number}
+use Rattle.framing.specs.declared.Format.TheVariants.{Mgl}
+use Rattle.answer.specs.declared.Refusal.{Refusal}
+use Rattle.answer.specs.Answer.{Answer, given, unless, answer_of}
 use Rattle.content.specs.Body.{is_frame}
 use Rattle.mgl.specs.declared.gps.Gps.{Gps}
-use Rattle.mgl.specs.declared.gps.GpsResult.{GpsResult}
-use Rattle.mgl.specs.declared.gps.GpsResult.TheVariants.{Read, Refused}
 use Rattle.mgl.specs.Header.{body_byte, body_low, is_message}
 
 -- the altitude is valid in modes 3 and 5 alone
@@ -65,14 +64,13 @@ no_gps = record {
   altitude_valid = false;
 }
 
-abbrev pub gps_answer : GpsResult → Answer Gps
-gps_answer (Read g) = given g
-gps_answer (Refused r) = refused no_gps (refusal_number r)
+abbrev pub gps_answer : Result Gps Refusal → Answer Gps
+gps_answer r = answer_of no_gps (λ g. g) r
 
 -- type 2, L = 36: 56 bytes. Mode over 5 is 9.
 unfoldable pub gps_of : List ℕ → Answer Gps
 gps_of s =
-    unless no_gps (is_frame mgl s) 7
+    unless no_gps (is_frame Mgl s) 7
     (unless no_gps (is_message 2 56 s) 8
     (unless no_gps (leb (body_byte s 34) 5) 9
     (given (gps_at s))))

@@ -4,18 +4,15 @@ ghost use Rattle.content.specs.Shared.{clock_answer};
 ghost use Rattle.mgl.specs.Clock.{mgl_clock_of};
 
 use answer::Refusal;
-use calendar::DateTime;
-use content::ClockResult;
+use calendar::{Clock, DateTime};
+use framing::Format;
 
-pub fn read_clock(s: &[u8]) -> ClockResult
+#[tactic(auto, using(content::proofs::JudgeLaws::judging), unfolding(crate::specs::Clock::mgl_clock_of))]
+pub fn read_clock(s: &[u8]) -> Result<Clock, Refusal>
     ensures { clock_answer result ≡ mgl_clock_of s.now }
 {
-    if !content::is_frame(1, s) {
-        return ClockResult::Refused(Refusal::NotOneFrame);
-    }
-    if !super::is_message(s, 1, 44) {
-        return ClockResult::Refused(Refusal::OtherMessage);
-    }
+    content::judge(Format::Mgl, s)?;
+    super::judge_message(s, 1, 44)?;
     let t = DateTime {
         year: numbers::byte_at(s, 8, 29),
         month: numbers::byte_at(s, 8, 28),
@@ -24,5 +21,5 @@ pub fn read_clock(s: &[u8]) -> ClockResult
         minute: numbers::byte_at(s, 8, 25),
         second: numbers::byte_at(s, 8, 26),
     };
-    ClockResult::Read(calendar::binary_clock(t, 2000, 99))
+    Ok(calendar::binary_clock(t, 2000, 99))
 }

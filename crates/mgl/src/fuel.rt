@@ -4,9 +4,10 @@ ghost use Rattle.content.specs.Shared.{number_answer};
 ghost use Rattle.mgl.specs.Fuel.{is_fuel, tank_count_of, tank_answer, tank_at, tank_of};
 
 use answer::Refusal;
-use content::NumberResult;
+use framing::Format;
+use numbers::LittleEndian;
 
-#[derive(Clone, Copy)]
+#[derive(Clone, Copy, Debug, PartialEq, Eq)]
 pub struct Tank {
     pub level: i32,
     pub kind: u8,
@@ -14,42 +15,27 @@ pub struct Tank {
     pub sensors: u16,
 }
 
-#[derive(Clone, Copy)]
-pub enum TankResult {
-    Read(Tank),
-    Refused(Refusal),
-}
-
+#[tactic(auto, unfolding(crate::specs::Fuel::is_fuel))]
 fn is_fuel(s: &[u8]) -> bool
     ensures { result ≡ is_fuel s.now }
 {
-    if !super::has_type(s, 11) {
-        return false;
-    }
-    if s.len() < 24 {
-        return false;
-    }
-    if 272 < s.len() {
-        return false;
-    }
-    (s.len() - 16) % 8 == 0
+    super::has_type(s, 11) && 24 <= s.len() && s.len() <= 272 && (s.len() - 16) % 8 == 0
 }
 
 // How many tanks a fuel frame has. The body's first number is signed; k is small, so comparing the bits compares the numbers.
-pub fn read_count(s: &[u8]) -> NumberResult
+#[tactic(auto, using(crate::proofs::FuelLaws::counting), unfolding(crate::specs::Fuel::tank_count_of, crate::specs::Fuel::tanks))]
+pub fn read_count(s: &[u8]) -> Result<u32, Refusal>
     ensures { number_answer result ≡ tank_count_of s.now }
 {
-    if !content::is_frame(1, s) {
-        return NumberResult::Refused(Refusal::NotOneFrame);
-    }
+    content::judge(Format::Mgl, s)?;
     if !is_fuel(s) {
-        return NumberResult::Refused(Refusal::OtherMessage);
+        return Err(Refusal::OtherMessage);
     }
     let k = (s.len() as u32 - 16) / 8;
-    if numbers::u32_at(s, 8) != k {
-        return NumberResult::Refused(Refusal::OutOfForm);
+    if u32::at(s, 8) != k {
+        return Err(Refusal::OutOfForm);
     }
-    NumberResult::Read(k)
+    Ok(k)
 }
 
 // Tank i of a frame, from 0, after the head of 8 bytes and the count of 4. Its eight bytes are a slice of constant length, so that the
@@ -61,24 +47,20 @@ fn tank_at(s: &[u8], i: u32) -> Tank
     let at = 12 + 8 * i as usize;
     let tank = &s[at..at + 8];
     Tank {
-        level: numbers::i32_at(tank, 0),
+        level: i32::at(tank, 0),
         kind: numbers::byte_at(tank, 0, 4),
         on: numbers::byte_at(tank, 0, 5),
-        sensors: numbers::u16_at(tank, 6),
+        sensors: u16::at(tank, 6),
     }
 }
 
 // Tank i of a fuel frame, from 0.
-pub fn read_tank(s: &[u8], i: usize) -> TankResult
+pub fn read_tank(s: &[u8], i: usize) -> Result<Tank, Refusal>
     ensures { tank_answer result ≡ tank_of s.now i }
 {
-    match read_count(s) {
-        NumberResult::Refused(r) => TankResult::Refused(r),
-        NumberResult::Read(k) => {
-            if k as usize <= i {
-                return TankResult::Refused(Refusal::OutOfForm);
-            }
-            TankResult::Read(tank_at(s, i as u32))
-        }
+    let k = read_count(s)?;
+    if k as usize <= i {
+        return Err(Refusal::OutOfForm);
     }
+    Ok(tank_at(s, i as u32))
 }

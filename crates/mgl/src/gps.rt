@@ -3,9 +3,11 @@ ghost use Rattle.std.specs.Prelude.{◌≡◌};
 ghost use Rattle.mgl.specs.Gps.{has_altitude, gps_answer, gps_at, gps_of};
 
 use answer::Refusal;
+use framing::Format;
+use numbers::LittleEndian;
 
 // Every field raw, and what the mode says of them.
-#[derive(Clone, Copy)]
+#[derive(Clone, Copy, Debug, PartialEq, Eq)]
 pub struct Gps {
     pub latitude: i32,
     pub longitude: i32,
@@ -32,37 +34,30 @@ pub struct Gps {
     pub altitude_valid: bool,
 }
 
-#[derive(Clone, Copy)]
-pub enum GpsResult {
-    Read(Gps),
-    Refused(Refusal),
-}
-
+#[tactic(auto, unfolding(crate::specs::Gps::has_altitude))]
 fn has_altitude(mode: u8) -> bool
     ensures { result ≡ has_altitude mode }
 {
-    if mode == 3 {
-        return true;
-    }
-    mode == 5
+    mode == 3 || mode == 5
 }
 
 // The fields of a GPS frame.
+#[tactic(auto, unfolding(crate::specs::Gps::gps_at))]
 fn fields(s: &[u8]) -> Gps
     ensures { result ≡ gps_at s.now }
 {
     let mode = numbers::byte_at(s, 8, 34);
     Gps {
-        latitude: numbers::i32_at(s, 8),
-        longitude: numbers::i32_at(s, 12),
-        altitude: numbers::i32_at(s, 16),
-        agl: numbers::i32_at(s, 20),
-        north: numbers::i32_at(s, 24),
-        east: numbers::i32_at(s, 28),
-        down: numbers::i32_at(s, 32),
-        ground_speed: numbers::u16_at(s, 36),
-        track: numbers::u16_at(s, 38),
-        variation: numbers::i16_at(s, 40),
+        latitude: i32::at(s, 8),
+        longitude: i32::at(s, 12),
+        altitude: i32::at(s, 16),
+        agl: i32::at(s, 20),
+        north: i32::at(s, 24),
+        east: i32::at(s, 28),
+        down: i32::at(s, 32),
+        ground_speed: u16::at(s, 36),
+        track: u16::at(s, 38),
+        variation: i16::at(s, 40),
         mode,
         tracked: numbers::byte_at(s, 8, 35),
         visible: numbers::byte_at(s, 8, 36),
@@ -77,17 +72,14 @@ fn fields(s: &[u8]) -> Gps
     }
 }
 
-pub fn read_gps(s: &[u8]) -> GpsResult
+#[tactic(auto, using(content::proofs::JudgeLaws::judging), unfolding(crate::specs::Gps::gps_of))]
+pub fn read_gps(s: &[u8]) -> Result<Gps, Refusal>
     ensures { gps_answer result ≡ gps_of s.now }
 {
-    if !content::is_frame(1, s) {
-        return GpsResult::Refused(Refusal::NotOneFrame);
-    }
-    if !super::is_message(s, 2, 56) {
-        return GpsResult::Refused(Refusal::OtherMessage);
-    }
+    content::judge(Format::Mgl, s)?;
+    super::judge_message(s, 2, 56)?;
     if 5 < numbers::byte_at(s, 8, 34) {
-        return GpsResult::Refused(Refusal::OutOfForm);
+        return Err(Refusal::OutOfForm);
     }
-    GpsResult::Read(fields(s))
+    Ok(fields(s))
 }

@@ -6,12 +6,14 @@ pub mod fuel;
 pub mod gps;
 
 ghost use Rattle.std.specs.Prelude.{◌&&◌, ◌≡◌, eqb, get_or};
+ghost use Rattle.content.specs.Shared.{judged};
 ghost use Rattle.mgl.specs.Header.{header_answer, header_of, is_message};
 
 use answer::Refusal;
+use framing::Format;
 
 // What stands before the body of every frame: the message type, its rate a second, its count within the second, and its version.
-#[derive(Clone, Copy)]
+#[derive(Clone, Copy, Debug, PartialEq, Eq)]
 pub struct Header {
     pub message_type: u8,
     pub rate: u8,
@@ -19,19 +21,12 @@ pub struct Header {
     pub version: u8,
 }
 
-#[derive(Clone, Copy)]
-pub enum HeaderResult {
-    Read(Header),
-    Refused(Refusal),
-}
-
-pub fn read_header(s: &[u8]) -> HeaderResult
+#[tactic(auto, using(crate::proofs::SizeLaws::judging), unfolding(crate::specs::Header::header_of))]
+pub fn read_header(s: &[u8]) -> Result<Header, Refusal>
     ensures { header_answer result ≡ header_of s.now }
 {
-    if !content::is_frame(1, s) {
-        return HeaderResult::Refused(Refusal::NotOneFrame);
-    }
-    HeaderResult::Read(Header {
+    content::judge(Format::Mgl, s)?;
+    Ok(Header {
         message_type: s[4],
         rate: s[5],
         count: s[6],
@@ -43,18 +38,24 @@ pub fn read_header(s: &[u8]) -> HeaderResult
 pub(crate) fn has_type(s: &[u8], wanted: u8) -> bool
     ensures { result ≡ (eqb (get_or s.now 4 0) wanted && eqb (get_or s.now 7 0) 1) }
 {
-    if numbers::byte_at(s, 4, 0) != wanted {
-        return false;
-    }
-    numbers::byte_at(s, 7, 0) == 1
+    numbers::byte_at(s, 4, 0) == wanted && numbers::byte_at(s, 7, 0) == 1
 }
 
 // Whether a frame has this message type, version 1, and `len` bytes.
-pub(crate) fn is_message(s: &[u8], wanted: u8, len: usize) -> bool
+#[tactic(auto, unfolding(crate::specs::Header::is_message))]
+fn is_message(s: &[u8], wanted: u8, len: usize) -> bool
     ensures { result ≡ is_message wanted len s.now }
 {
-    if !has_type(s, wanted) {
-        return false;
+    has_type(s, wanted) && s.len() == len
+}
+
+// What a field function judges of a frame before it reads its own fields.
+pub(crate) fn judge_message(s: &[u8], wanted: u8, len: usize) -> Result<(), Refusal>
+    ensures { result ≡ judged (is_message wanted len s.now) Refusal.OtherMessage }
+{
+    if is_message(s, wanted, len) {
+        Ok(())
+    } else {
+        Err(Refusal::OtherMessage)
     }
-    s.len() == len
 }

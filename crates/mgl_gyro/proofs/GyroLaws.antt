@@ -2,7 +2,7 @@
 -- Assumes nothing.
 use Prim.Native.Nat.{ℕ, zero, suc, ◌+◌, ◌-◌, ◌*◌, ◌/◌, ◌%◌, ◌^◌, ◌<◌, ◌≤◌}
 use mathlib.Core.Path.{◌≡◌, refl, sym, ap, ◌∙◌}
-use mathlib.Core.Bool.{true, false, not}
+use mathlib.Core.Bool.{Bool, true, false, not}
 use native.Mathlib.Decide.{dec_le, ℕ_discrete}
 use native.Mathlib.Omega.{arith}
 use lib.Dec.{T, leb}
@@ -14,7 +14,7 @@ use mir.Val.{to_z, of_z, SFits}
 use Rattle.numbers.specs.Low.{signed, minus}
 use Rattle.numbers.proofs.Signed.{small}
 use Rattle.numbers.proofs.Size.{minus_is, minus-nat_abs, stays, test-yes, test-no}
-use Rattle.answer.specs.Answer.{given, unless}
+use Rattle.answer.specs.Answer.{given, refused, unless}
 use Rattle.mgl_gyro.specs.Gyro.{scale, hundredths_of, unscale, number_of}
 
 -- ---- sizes
@@ -98,3 +98,11 @@ module _ {z : ℤ} (f : SFits w32 z) {s n : ℕ} (size : s ≡ nat_abs (to_z w32
 
   pub written-down : lt_z (to_z w32 (of_z w32 z)) (pos 0) ≡ true → number_of z ≡ unless (pos 0) (leb n 32768) 9 (given (neg_ℤ (pos n)))
   written-down t = ap number_of (sym (minus-nat_abs z (test-yes w32 z f t))) ∙ rw (back, size, stays w32 f) (number-down (nat_abs z))
+
+-- no number has the rate's size
+pub not-written : {z : ℤ} (f : SFits w32 z) {s : ℕ} → s ≡ nat_abs (to_z w32 (of_z w32 z)) → ◌≡◌ {A = ℕ} 65535 (unscale s) → refused (pos 0) 9 ≡ number_of z
+not-written {z} f size back = go (lt_z (to_z w32 (of_z w32 z)) (pos 0)) refl
+  where
+    go : (b : Bool) → lt_z (to_z w32 (of_z w32 z)) (pos 0) ≡ b → refused (pos 0) 9 ≡ number_of z
+    go true t = sym (written-down f size back t)
+    go false t = sym (written-up f size back t)

@@ -1,8 +1,7 @@
 -- Gyro numbers in hundredths of a degree a second, and back (docs/FORMATS.md, "Gyro numbers").
-use Rattle.std.specs.Prelude.{ℕ, suc, ◌+◌, ◌-◌, ◌*◌, ◌/◌, ◌%◌, cond, leb, eqb, ℤ, pos, negsuc, neg_ℤ}
-use Rattle.answer.specs.Answer.{Answer, given, refused, unless, refusal_number}
-use Rattle.mgl_gyro.specs.declared.GyroWriting.{GyroWriting}
-use Rattle.mgl_gyro.specs.declared.GyroWriting.TheVariants.{Number, Refused}
+use Rattle.std.specs.Prelude.{ℕ, suc, ◌+◌, ◌-◌, ◌*◌, ◌/◌, ◌%◌, cond, leb, eqb, ℤ, pos, negsuc, neg_ℤ, Result}
+use Rattle.answer.specs.declared.Refusal.{Refusal}
+use Rattle.answer.specs.Answer.{Answer, given, unless, answer_of}
 
 -- the size itself up to 14,999; above it (size - 13,500) times 10
 unfoldable pub scale : ℕ → ℕ
@@ -24,6 +23,5 @@ unfoldable pub number_of : ℤ → Answer ℤ
 number_of (pos m) = unless (pos 0) (leb (unscale m) 32767) 9 (given (pos (unscale m)))
 number_of (negsuc m) = unless (pos 0) (leb (unscale (suc m)) 32768) 9 (given (neg_ℤ (pos (unscale (suc m)))))
 
-abbrev pub gyro_answer : GyroWriting → Answer ℤ
-gyro_answer (Number v) = given v
-gyro_answer (Refused r) = refused (pos 0) (refusal_number r)
+abbrev pub gyro_answer : Result ℤ Refusal → Answer ℤ
+gyro_answer r = answer_of (pos 0) (λ v. v) r

@@ -1,13 +1,10 @@
 -- PLARS settings, in one spelling only (docs/FORMATS.md, "NMEA content").
-use Rattle.std.specs.Prelude.{ℕ, zero, suc, ◌+◌, ◌-◌, ◌*◌, ◌^◌, Bool, cond, not, ◌&&◌, ◌||◌, List, [], ◌∷◌, leb, ltb, eqb, length, get_or, take, drop}
-use Rattle.answer.specs.Answer.{Answer, given, refused, unless, refusal_number}
-use Rattle.nmea_sentence.specs.declared.Digits.{Digits}
-use Rattle.nmea_sentence.specs.declared.Digits.TheVariants.{Of, None}
+use Rattle.std.specs.Prelude.{ℕ, zero, suc, ◌+◌, ◌-◌, ◌*◌, ◌^◌, Bool, cond, not, ◌&&◌, ◌||◌, List, [], ◌∷◌, leb, ltb, eqb, length, get_or, take, drop, Option, Some, None, Result}
+use Rattle.answer.specs.declared.Refusal.{Refusal}
+use Rattle.answer.specs.Answer.{Answer, given, refused, unless, answer_of}
 use Rattle.nmea_sentence.specs.Digits.{digits_of}
 use Rattle.nmea_plars.specs.declared.Form.{Form}
 use Rattle.nmea_plars.specs.declared.Setting.{Setting}
-use Rattle.nmea_plars.specs.declared.SettingResult.{SettingResult}
-use Rattle.nmea_plars.specs.declared.SettingResult.TheVariants.{Read, Refused}
 use Rattle.nmea_sentence.specs.Judge.{eq_bytes, in_sentence, field_in}
 
 -- PLARS, and three fields after it: source, parameter and value
@@ -50,18 +47,22 @@ index_in (r ∷ rs) name = cond (eq_bytes name r.name) 0 (suc (index_in rs name)
 unfoldable pub parameter_of : List ℕ → ℕ
 parameter_of name = index_in setting_rules name
 
+-- the same where the name is a parameter's
+unfoldable pub parameter_named : List ℕ → Option ℕ
+parameter_named name = cond (ltb (parameter_of name) 4) (Some (parameter_of name)) None
+
 -- a whole part: not empty, and no leading zero before another digit
 unfoldable pub is_whole_part : List ℕ → Bool
 is_whole_part s = leb 1 (length s) && (leb (length s) 1 || not (eqb (get_or s 0 0) 0x30))
 
 -- a whole part w and decimals f, in steps of the last decimal, of which u make 1
-abbrev pub steps : ℕ → Digits → Digits → Digits
+abbrev pub steps : ℕ → Option ℕ → Option ℕ → Option ℕ
 steps u None f = None
-steps u (Of w) None = None
-steps u (Of w) (Of f) = Of (w * u + f)
+steps u (Some w) None = None
+steps u (Some w) (Some f) = Some (w * u + f)
 
 -- a value with d decimals; with one or more, a point stands before them
-unfoldable pub value_of : ℕ → List ℕ → Digits
+unfoldable pub value_of : ℕ → List ℕ → Option ℕ
 value_of zero s = cond (is_whole_part s) (digits_of s) None
 value_of (suc d) s =
     let k = length s - (d + 2) in
@@ -72,18 +73,17 @@ value_of (suc d) s =
 abbrev pub no_setting : Setting
 no_setting = record { source = 0; parameter = 0; value = 0 }
 
-abbrev pub setting_answer : SettingResult → Answer Setting
-setting_answer (Read x) = given x
-setting_answer (Refused r) = refused no_setting (refusal_number r)
+abbrev pub setting_answer : Result Setting Refusal → Answer Setting
+setting_answer r = answer_of no_setting (λ x. x) r
 
 -- L or H
 unfoldable pub is_source : ℕ → Bool
 is_source b = eqb b 0x4C || eqb b 0x48
 
 -- within the range of the rule
-abbrev pub ranged : ℕ → ℕ → Digits → Answer Setting
+abbrev pub ranged : ℕ → ℕ → Option ℕ → Answer Setting
 ranged source p None = refused no_setting 9
-ranged source p (Of n) =
+ranged source p (Some n) =
     unless no_setting (leb (rule_of p).least n && leb n (rule_of p).most) 9
     (given (record { source = source; parameter = p; value = n }))
 

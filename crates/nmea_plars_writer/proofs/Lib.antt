@@ -1,3 +1,3 @@
--- Laws of the text of a setting. Assumes nothing.
+-- Laws of a setting's text, and of text pushed part by part. Assumes nothing.
 pub mod TextLaws
-pub mod PutLaws
+pub mod PushLaws

@@ -12,7 +12,7 @@ use Rattle.decimal.specs.Decimal.{last_digits, digit_count, decimal_text}
 use Rattle.decimal.proofs.DecimalLaws.{count_most, length_last}
 use Rattle.decimal.proofs.DigitTexts.{Digits, last_digits_lem, text-digits, text-length}
 use Rattle.framing.specs.Nmea.{permitted}
-use Rattle.framing.specs.Format.{nmea}
+use Rattle.framing.specs.declared.Format.TheVariants.{Nmea}
 use Rattle.frame_writer.specs.Frames.{all_permitted, takes}
 use Rattle.nmea_plars.specs.declared.Setting.{Setting}
 use Rattle.nmea_plars.specs.Plars.{rule_of, is_source}
@@ -123,7 +123,7 @@ body-permitted x t =
     ap₂ (λ (u v : Bool). u && v) (either-source (λ b. permitted b ≡ true) refl refl x.source t.source)
     (name-permitted x.parameter value ∙ value-permitted (rule_of x.parameter).decimals x.value)
 
-pub body-taken : (x : Setting) → takes_setting x ≡ true → takes nmea (setting_body x) ≡ true
+pub body-taken : (x : Setting) → takes_setting x ≡ true → takes Nmea (setting_body x) ≡ true
 unfolding takes
 body-taken x e =
     let s = body-short x e in

@@ -1,95 +1,79 @@
 // PLARS settings written, in one spelling only.
 #![tactic(auto)]
 
-ghost use Rattle.std.specs.Prelude.{◌≡◌, true, ◌+◌, ◌<◌, ◌≤◌, ◌^◌, length, take};
-ghost use Rattle.buffer.specs.Buffer.{copied};
+ghost use Rattle.std.specs.Prelude.{◌≡◌, ◌^◌, ◌&&◌, ◌++◌, leb, take};
 ghost use Rattle.nmea_plars.specs.Plars.{rule_of};
 ghost use Rattle.frame_writer.specs.Output.{writing_answer};
 ghost use Rattle.nmea_plars_writer.specs.Text.{value_text, setting_body, takes_setting, write_setting};
 
 use answer::Refusal;
-use frame_writer::Writing;
+use buffer::Text;
 use nmea_plars::{Form, Setting};
 
 // The longest body: PLARS,H,QNH,1200.0.
 const LONGEST: usize = 18;
 
+// Whether a value is in the range of its parameter.
+fn is_in_range(parameter: u8, value: u32) -> bool
+    ensures { result ≡ (leb (rule_of parameter).least value && leb value (rule_of parameter).most) }
+{
+    let form = nmea_plars::form_of(parameter);
+    let steps = u64::from(value);
+    form.least <= steps && steps <= form.most
+}
+
 // Whether a setting is taken.
 fn takes(setting: Setting) -> bool
     ensures { result ≡ takes_setting setting }
 {
-    if !nmea_plars::is_source(setting.source) {
-        return false;
-    }
-    let form = nmea_plars::form_of(setting.parameter);
-    let value = setting.value as u64;
-    if value < form.least {
-        return false;
-    }
-    value <= form.most
+    nmea_plars::is_source(setting.source) && is_in_range(setting.parameter, setting.value)
 }
 
-// Puts bytes into a text, and answers the place behind them.
-fn put(bytes: &[u8], text: &mut [u8], at: usize) -> usize
-    requires { at + length bytes.now ≤ length text.old }
-    ensures { (result ≡ at + length bytes.now) × (text.new ≡ copied bytes.now text.old at) }
-{
-    buffer::copy(bytes, text, at);
-    at + bytes.len()
-}
-
-// Puts a parameter's name, and answers the place behind it.
-fn put_name(parameter: u8, text: &mut [u8], at: usize) -> usize
-    requires { (parameter < 4) × (at + length (rule_of parameter).name ≤ length text.old) }
-    ensures { (result ≡ at + length (rule_of parameter).name) × (text.new ≡ copied (rule_of parameter).name text.old at) }
+// A parameter's name; a number that is no parameter's has none.
+fn name_of(parameter: u8) -> &'static [u8]
+    ensures { result.now ≡ (rule_of parameter).name }
 {
     match parameter {
-        0 => put(b"MC", text, at),
-        1 => put(b"BAL", text, at),
-        2 => put(b"BUGS", text, at),
-        _ => put(b"QNH", text, at),
+        0 => b"MC",
+        1 => b"BAL",
+        2 => b"BUGS",
+        3 => b"QNH",
+        _ => b"",
     }
 }
 
-// Puts a value, and answers the place behind it.
-fn put_value(value: u64, form: Form, text: &mut [u8], at: usize) -> usize
-    requires { (form.unit ≡ 10 ^ form.decimals) × (at + length (value_text form.decimals value) ≤ length text.old) }
-    ensures { (result ≡ at + length (value_text form.decimals value)) × (text.new ≡ copied (value_text form.decimals value) text.old at) }
+// Pushes a value.
+fn push_value<const N: usize>(value: u64, form: Form, text: &mut Text<N>)
+    requires { form.unit ≡ 10 ^ form.decimals }
+    ensures { text.new ≡ take N (text.old ++ value_text form.decimals value) }
 {
-    let whole = value / form.unit;
-    let k = decimal::count(whole);
-    decimal::put(whole, k, text, at);
-    let point = at + k;
-    if form.decimals == 0 {
-        return point;
+    decimal::push(value / form.unit, text);
+    if 0 < form.decimals {
+        text.push(b".");
+        decimal::push_last(value, form.decimals, text);
     }
-    buffer::copy(b".", text, point);
-    let fraction = point + 1;
-    decimal::put(value, form.decimals, text, fraction);
-    fraction + form.decimals
 }
 
-// Puts the body of a setting's sentence, and answers its length.
-fn put_body(setting: Setting, text: &mut [u8]) -> usize
-    requires { (takes_setting setting ≡ true) × (length (setting_body setting) ≤ length text.old) }
-    ensures { (result ≡ length (setting_body setting)) × (take result text.new ≡ setting_body setting) }
+// The body of a setting's sentence.
+fn body_of(setting: Setting) -> Text<LONGEST>
+    ensures { result ≡ take LONGEST (setting_body setting) }
 {
     let head = [b'P', b'L', b'A', b'R', b'S', b',', setting.source, b','];
-    buffer::copy(&head, text, 0);
-    let comma = put_name(setting.parameter, text, 8);
-    buffer::copy(b",", text, comma);
     let form = nmea_plars::form_of(setting.parameter);
-    put_value(setting.value as u64, form, text, comma + 1)
+    let mut text = Text::new();
+    text.push(&head);
+    text.push(name_of(setting.parameter));
+    text.push(b",");
+    push_value(u64::from(setting.value), form, &mut text);
+    text
 }
 
 // Writes the sentence that states a setting.
-pub fn write_setting(setting: Setting, out: &mut [u8]) -> Writing
+pub fn write_setting(setting: Setting, out: &mut [u8]) -> Result<usize, Refusal>
     ensures { writing_answer result out.new ≡ write_setting setting out.old }
 {
     if !takes(setting) {
-        return Writing::Refused(Refusal::OutOfForm);
+        return Err(Refusal::OutOfForm);
     }
-    let mut text = [0u8; LONGEST];
-    let n = put_body(setting, &mut text);
-    frame_writer::write_nmea(&text[..n], out)
+    frame_writer::write_nmea(body_of(setting).as_bytes(), out)
 }

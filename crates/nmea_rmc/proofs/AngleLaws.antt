@@ -8,36 +8,35 @@ use native.Mathlib.Omega.{arith}
 use lib.ListN.{length, get_or, take, drop, length-drop}
 use lib.Seq.{take_all}
 use borrow.Author.Tests.{le-leb, lt-leb, eq-eqb, ne_eqb, lt-ltb, le-ltb}
-use Rattle.nmea_sentence.specs.declared.Digits.{Digits}
-use Rattle.nmea_sentence.specs.declared.Digits.TheVariants.{Of, None}
+use Rattle.std.specs.Prelude.{Option, Some, None}
 use Rattle.nmea_sentence.specs.Digits.{digits_of}
 use Rattle.nmea_rmc.specs.Angle.{angle_sum, angle_of}
 
 -- ---- the sum, where one part is enough to refuse it
 
-sum-no-minutes : (d f : Digits) → angle_sum d None f ≡ None
+sum-no-minutes : (d f : Option ℕ) → angle_sum d None f ≡ None
 sum-no-minutes None f = refl
-sum-no-minutes (Of d) f = refl
+sum-no-minutes (Some d) f = refl
 
-sum-no-parts : (d m : Digits) → angle_sum d m None ≡ None
+sum-no-parts : (d m : Option ℕ) → angle_sum d m None ≡ None
 sum-no-parts None m = refl
-sum-no-parts (Of d) None = refl
-sum-no-parts (Of d) (Of m) = refl
+sum-no-parts (Some d) None = refl
+sum-no-parts (Some d) (Some m) = refl
 
-sum-high-minutes : (d f : Digits) (m : ℕ) → 60 ≤ m → angle_sum d (Of m) f ≡ None
+sum-high-minutes : (d f : Option ℕ) (m : ℕ) → 60 ≤ m → angle_sum d (Some m) f ≡ None
 sum-high-minutes None f m h = refl
-sum-high-minutes (Of d) None m h = refl
-sum-high-minutes (Of d) (Of f) m h = rw (le-ltb m 60 h)
+sum-high-minutes (Some d) None m h = refl
+sum-high-minutes (Some d) (Some f) m h = rw (le-ltb m 60 h)
 
 -- ---- the parts of a field as the code cuts them, where the degrees end at k
 
-abbrev degrees_at : ℕ → List ℕ → Digits
+abbrev degrees_at : ℕ → List ℕ → Option ℕ
 degrees_at k s = digits_of (take (k - 0) (drop 0 s))
 
-abbrev minutes_at : ℕ → List ℕ → Digits
+abbrev minutes_at : ℕ → List ℕ → Option ℕ
 minutes_at k s = digits_of (take (k + 2 - k) (drop k s))
 
-abbrev parts_at : ℕ → List ℕ → Digits
+abbrev parts_at : ℕ → List ℕ → Option ℕ
 parts_at k s = digits_of (take (length s - (k + 3)) (drop (k + 3) s))
 
 -- ---- the field
@@ -83,9 +82,9 @@ module _ (most : ℕ) (s : List ℕ) where
     pub no-parts : None ≡ parts_at (length s - 8) s → None ≡ angle_of most s
     no-parts r = rw (← r, sum-no-parts) at joined
 
-    module _ {m : ℕ} (q : Of m ≡ minutes_at (length s - 8) s) where
+    module _ {m : ℕ} (q : Some m ≡ minutes_at (length s - 8) s) where
       pub high-minutes : 60 ≤ m → None ≡ angle_of most s
       high-minutes h = rw (← q, sum-high-minutes) at joined
 
-      pub whole : {d f : ℕ} → Of d ≡ degrees_at (length s - 8) s → Of f ≡ parts_at (length s - 8) s → m < 60 → Of (d * 6000000 + m * 100000 + f) ≡ angle_of most s
+      pub whole : {d f : ℕ} → Some d ≡ degrees_at (length s - 8) s → Some f ≡ parts_at (length s - 8) s → m < 60 → Some (d * 6000000 + m * 100000 + f) ≡ angle_of most s
       whole p r h = rw (← p, ← q, ← r, lt-ltb m 60 h) at joined

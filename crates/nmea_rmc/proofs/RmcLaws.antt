@@ -10,7 +10,7 @@ use lib.Ieee.Fits.{and_l, and_r}
 use lib.ListN.{length, get_or, take, drop}
 use lib.Seq.{take_all, get_or-take, length-take-le}
 use borrow.Author.Tests.{le-leb}
-use Rattle.nmea_sentence.specs.declared.Digits.TheVariants.{Of, None}
+use Rattle.std.specs.Prelude.{Some, None, is_some}
 use Rattle.nmea_sentence.specs.Digits.{all_digits, decimal, digits_of}
 use Rattle.nmea_rmc.specs.Rmc.{is_time, is_date, letter}
 use Rattle.nmea_rmc.specs.declared.rmc.Status.{Status}
@@ -18,14 +18,14 @@ use Rattle.nmea_rmc.specs.declared.rmc.Status.TheVariants.{Valid, Warning}
 
 -- ---- digits
 
--- so few bytes that write no number are not all digits
-pub no_number : (s : List ℕ) → digits_of s ≡ None → length s ≤ 9 → false ≡ all_digits s
+-- so few bytes are digits where they write a number
+pub digits-some : (s : List ℕ) → length s ≤ 9 → is_some (digits_of s) ≡ all_digits s
 unfolding digits_of
-no_number s e h = go (all_digits s) (rw (le-leb (length s) 9 h) at e)
+digits-some s h = rw (le-leb (length s) 9 h) (go (all_digits s))
   where
-    go : (t : Bool) → cond t (Of (decimal s)) None ≡ None → false ≡ t
-    go true e = let z : ◌≡◌ {A = ℕ} 0 1 = cc in absurd (omega arith)
-    go false e = refl
+    go : (t : Bool) → is_some (cond t (Some (decimal s)) None) ≡ t
+    go true = refl
+    go false = refl
 
 pub record Digit (b : ℕ) : Type 0 where
   pub low : 0x30 ≤ b

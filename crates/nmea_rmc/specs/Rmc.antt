@@ -1,21 +1,19 @@
 -- Clock, position and status of an RMC sentence (docs/FORMATS.md, "NMEA content" and "Clock times").
-use Rattle.std.specs.Prelude.{ℕ, ◌+◌, ◌-◌, ◌*◌, Bool, cond, ◌&&◌, ◌||◌, List, [], ◌∷◌, eqb, length, get_or, take, drop}
+use Rattle.std.specs.Prelude.{ℕ, ◌+◌, ◌-◌, ◌*◌, Bool, cond, ◌&&◌, ◌||◌, List, [], ◌∷◌, eqb, length, get_or, take, drop, ℤ, Option, Some, None, Result}
 use Rattle.calendar.specs.declared.DateTime.{DateTime}
 use Rattle.calendar.specs.declared.Clock.{Clock}
 use Rattle.calendar.specs.declared.Clock.TheVariants.{Unset}
 use Rattle.calendar.specs.Clocks.{ClockValues, clock_values, clock_of}
-use Rattle.answer.specs.Answer.{Answer, given, refused, unless, refusal_number}
-use Rattle.framing.specs.Format.{nmea}
+use Rattle.answer.specs.declared.Refusal.{Refusal}
+use Rattle.answer.specs.Answer.{Answer, given, refused, unless, answer_of}
+use Rattle.framing.specs.declared.Format.TheVariants.{Nmea}
 use Rattle.content.specs.Body.{body_of}
-use Rattle.content.specs.Shared.{no_clock, Position, no_position}
+use Rattle.content.specs.declared.Position.{Position}
+use Rattle.content.specs.Shared.{no_clock, no_position}
 use Rattle.nmea_sentence.specs.Fields.{field_at}
 use Rattle.nmea_sentence.specs.Digits.{all_digits}
-use Rattle.nmea_rmc.specs.declared.angle.Angle.{Angle}
-use Rattle.nmea_rmc.specs.declared.angle.Angle.TheVariants.{Good, Bad}
 use Rattle.nmea_rmc.specs.declared.rmc.Status.{Status}
 use Rattle.nmea_rmc.specs.declared.rmc.Status.TheVariants.{Valid, Warning}
-use Rattle.nmea_rmc.specs.declared.rmc.StatusResult.{StatusResult}
-use Rattle.nmea_rmc.specs.declared.rmc.StatusResult.TheVariants.{Read, Refused}
 use Rattle.nmea_sentence.specs.Judge.{in_sentence, field_in}
 use Rattle.nmea_rmc.specs.Angle.{latitude_of, longitude_of}
 
@@ -68,17 +66,17 @@ rmc_clock_of s = in_rmc no_clock s (fields_clock (field_in s 1) (field_in s 9))
 
 -- ---- the position: latitude and its hemisphere are fields 3 and 4, longitude and its hemisphere 5 and 6
 
-abbrev pub both : Angle → Angle → Answer Position
-both Bad longitude = refused no_position 9
-both (Good a) Bad = refused no_position 9
-both (Good a) (Good b) = given (record { latitude = a; longitude = b })
+abbrev pub both : Option ℤ → Option ℤ → Answer Position
+both None longitude = refused no_position 9
+both (Some a) None = refused no_position 9
+both (Some a) (Some b) = given (record { latitude = a; longitude = b })
 
 abbrev pub body_position : List ℕ → Answer Position
 body_position body =
     both (latitude_of (field_at body 3) (field_at body 4)) (longitude_of (field_at body 5) (field_at body 6))
 
 unfoldable pub rmc_position_of : List ℕ → Answer Position
-rmc_position_of s = in_rmc no_position s (body_position (body_of nmea s))
+rmc_position_of s = in_rmc no_position s (body_position (body_of Nmea s))
 
 -- ---- the status, field 2: the letter A or V
 
@@ -86,9 +84,8 @@ abbrev pub letter : Status → ℕ
 letter Valid = 0x41
 letter Warning = 0x56
 
-abbrev pub rmc_status_answer : StatusResult → Answer ℕ
-rmc_status_answer (Read x) = given (letter x)
-rmc_status_answer (Refused r) = refused 0 (refusal_number r)
+abbrev pub rmc_status_answer : Result Status Refusal → Answer ℕ
+rmc_status_answer r = answer_of 0 letter r
 
 unfoldable pub field_status : List ℕ → Answer ℕ
 field_status s =

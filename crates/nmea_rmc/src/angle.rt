@@ -2,41 +2,32 @@
 ghost use Rattle.std.specs.Prelude.{◌≡◌, ◌^◌, ◌<◌, ◌≤◌};
 ghost use Rattle.nmea_rmc.specs.Angle.{angle_of, hemisphere_of, place, latitude_of, longitude_of};
 
-use nmea_sentence::Digits;
-
 // An angle without its hemisphere: up to `most` degree digits, two minute digits below 60, a point, five digits.
-fn angle_of(s: &[u8], most: usize) -> Digits
+fn angle_of(s: &[u8], most: usize) -> Option<u64>
     requires { most ≤ 3 }
     ensures { result ≡ angle_of most s.now }
 {
     if s.len() < 9 {
-        return Digits::None;
+        return None;
     }
     let k = s.len() - 8;
     if most < k {
-        return Digits::None;
+        return None;
     }
     if s[k + 2] != b'.' {
-        return Digits::None;
+        return None;
     }
-    let m = k + 2;
-    let f = k + 3;
-    let Digits::Of(degrees) = nmea_sentence::parse_digits(&s[0..k]) else {
-        return Digits::None;
-    };
-    let Digits::Of(minutes) = nmea_sentence::parse_digits(&s[k..m]) else {
-        return Digits::None;
-    };
-    let Digits::Of(parts) = nmea_sentence::parse_digits(&s[f..]) else {
-        return Digits::None;
-    };
+    let degrees = nmea_sentence::parse_digits(&s[0..k])?;
+    let minutes = nmea_sentence::parse_digits(&s[k..k + 2])?;
+    let parts = nmea_sentence::parse_digits(&s[k + 3..])?;
     if 60 <= minutes {
-        return Digits::None;
+        return None;
     }
-    Digits::Of(degrees * 6_000_000 + minutes * 100_000 + parts)
+    Some(degrees * 6_000_000 + minutes * 100_000 + parts)
 }
 
-#[derive(Clone, Copy)]
+// Kept: three cases, where Option has two; `hemisphere_of` of specs/Angle.antt names them.
+#[derive(Clone, Copy, Debug, PartialEq, Eq)]
 pub enum Hemisphere {
     Plus,
     Minus,
@@ -60,40 +51,25 @@ fn hemisphere_of(s: &[u8], plus: u8, minus: u8) -> Hemisphere
 }
 
 // Below 0 in the south and the west.
-#[derive(Clone, Copy)]
-pub enum Angle {
-    Good(i32),
-    Bad,
-}
-
-fn placed(most: u64, size: Digits, hemisphere: Hemisphere) -> Angle
+fn placed(most: u64, size: Option<u64>, hemisphere: Hemisphere) -> Option<i32>
     requires { most < 2 ^ 31 }
     ensures { result ≡ place most size hemisphere }
 {
-    let Digits::Of(n) = size else {
-        return Angle::Bad;
-    };
+    let n = size?;
+    if most < n {
+        return None;
+    }
     match hemisphere {
-        Hemisphere::Plus => {
-            if n <= most {
-                Angle::Good(n as i32)
-            } else {
-                Angle::Bad
-            }
-        }
-        Hemisphere::Minus => {
-            if n <= most {
-                Angle::Good(numbers::minus32(n as u32))
-            } else {
-                Angle::Bad
-            }
-        }
-        Hemisphere::Neither => Angle::Bad,
+        Hemisphere::Plus => Some(n as i32),
+        Hemisphere::Minus => Some(-(n as i32)),
+        Hemisphere::Neither => None,
     }
 }
 
+// Kept: two functions, here and below: both are one call of what they share, and a const parameter for three constants says no more.
 // The latitude of a latitude field and its hemisphere's field: at most 90 degrees.
-pub(crate) fn latitude(s: &[u8], hemisphere: &[u8]) -> Angle
+#[tactic(auto, unfolding(crate::specs::Angle::latitude_of))]
+pub(crate) fn latitude(s: &[u8], hemisphere: &[u8]) -> Option<i32>
     ensures { result ≡ latitude_of s.now hemisphere.now }
 {
     placed(
@@ -104,7 +80,8 @@ pub(crate) fn latitude(s: &[u8], hemisphere: &[u8]) -> Angle
 }
 
 // The longitude, at most 180 degrees.
-pub(crate) fn longitude(s: &[u8], hemisphere: &[u8]) -> Angle
+#[tactic(auto, unfolding(crate::specs::Angle::longitude_of))]
+pub(crate) fn longitude(s: &[u8], hemisphere: &[u8]) -> Option<i32>
     ensures { result ≡ longitude_of s.now hemisphere.now }
 {
     placed(

@@ -1,4 +1,4 @@
--- What `digits_of s ≡ Of n` says, for callers; and the walk through the digits of a number.
+-- What `digits_of s ≡ Some n` says, for callers; and the walk through the digits of a number.
 -- Assumes nothing.
 use mathlib.Core.Path.{◌≡◌, refl, sym, ap, ap₂, subst, ◌∙◌}
 use mathlib.Core.Bool.{Bool, true, false, cond, ◌&&◌}
@@ -13,7 +13,7 @@ use lib.ListN.{length, get_or, drop, drop_of_length-le}
 use lib.Seq.{drop-cons}
 use borrow.Author.Tests.{le-leb, lt-leb}
 use Rattle.nmea_sentence.specs.Digits.{all_digits, next_digit, decimal, digits_of}
-use Rattle.nmea_sentence.specs.declared.Digits.TheVariants.{Of, None}
+use Rattle.std.specs.Prelude.{Some, None}
 
 -- s is up to nine digits that write n
 pub record Written (s : List ℕ) (n : ℕ) : Type 0 where
@@ -21,22 +21,22 @@ pub record Written (s : List ℕ) (n : ℕ) : Type 0 where
   pub value : decimal s ≡ n
   pub few : length s ≤ 9
 
-pub written : (s : List ℕ) (n : ℕ) → digits_of s ≡ Of n → Written s n
+pub written : (s : List ℕ) (n : ℕ) → digits_of s ≡ Some n → Written s n
 unfolding digits_of
 written s n e =
     let w = both (leb (length s) 9) (all_digits s) e in
     record { digits = w.1; value = w.2; few = leb→le (length s) 9 (subst T (sym w.0) tt) }
   where
-    both : (t u : Bool) → cond (t && u) (Of (decimal s)) None ≡ Of n → (t ≡ true) × (u ≡ true) × (decimal s ≡ n)
+    both : (t u : Bool) → cond (t && u) (Some (decimal s)) None ≡ Some n → (t ≡ true) × (u ≡ true) × (decimal s ≡ n)
     both true true h = (refl, refl, cc)
-    both true false h = let z : ◌≡◌ {A = ℕ} 0 1 = cc in absurd (omega arith)
-    both false u h = let z : ◌≡◌ {A = ℕ} 0 1 = cc in absurd (omega arith)
+    both true false h = cc
+    both false u h = cc
 
-pub reads : (s : List ℕ) (n : ℕ) → Written s n → Of n ≡ digits_of s
+pub reads : (s : List ℕ) (n : ℕ) → Written s n → Some n ≡ digits_of s
 unfolding digits_of
 reads s n w =
-    ap Of (sym w.value)
-    ∙ ap₂ (λ (x y : Bool). cond (x && y) (Of (decimal s)) None) (sym (le-leb (length s) 9 w.few)) (sym w.digits)
+    ap Some (sym w.value)
+    ∙ ap₂ (λ (x y : Bool). cond (x && y) (Some (decimal s)) None) (sym (le-leb (length s) 9 w.few)) (sym w.digits)
 
 -- each digit is below ten: what begins below m ends below m times ten to the count of digits
 below : (s : List ℕ) (n m : ℕ) → T (all_digits s) → n < m → foldl next_digit n s < m * 10 ^ length s
@@ -52,11 +52,11 @@ pub decimal-below : (s : List ℕ) → all_digits s ≡ true → decimal s < 10 
 unfolding decimal
 decimal-below s e = let b = below s 0 1 (subst T (sym e) tt) (omega arith) in omega arith
 
-pub digits-below : (s : List ℕ) (n : ℕ) → digits_of s ≡ Of n → n < 10 ^ length s
+pub digits-below : (s : List ℕ) (n : ℕ) → digits_of s ≡ Some n → n < 10 ^ length s
 digits-below s n e = let w = written s n e in rw w.value at (decimal-below s w.digits)
 
 -- a number of at most j digits
-pub few-digits : (s : List ℕ) (n j : ℕ) → Of n ≡ digits_of s → length s ≤ j → n < 10 ^ j
+pub few-digits : (s : List ℕ) (n j : ℕ) → Some n ≡ digits_of s → length s ≤ j → n < 10 ^ j
 few-digits s n j e h = lt_of_lt_of_le (digits-below s n (sym e)) (pow-le-pow_right {n = 10} (omega arith) h)
 
 -- the walk: the first i bytes of s are digits, and write n
@@ -69,9 +69,9 @@ pub record Read (s : List ℕ) (n i : ℕ) : Type 0 where
 
 no-digits : (s : List ℕ) → all_digits s ≡ false → None ≡ digits_of s
 unfolding digits_of
-no-digits s e = go (leb (length s) 9) ∙ ap (λ (t : Bool). cond (leb (length s) 9 && t) (Of (decimal s)) None) (sym e)
+no-digits s e = go (leb (length s) 9) ∙ ap (λ (t : Bool). cond (leb (length s) 9 && t) (Some (decimal s)) None) (sym e)
   where
-    go : (t : Bool) → None ≡ cond (t && false) (Of (decimal s)) None
+    go : (t : Bool) → None ≡ cond (t && false) (Some (decimal s)) None
     go true = refl
     go false = refl
 
@@ -113,7 +113,7 @@ module _ (s : List ℕ) where
       pub high : 0x30 ≤ get_or s i 0 → 0x39 < get_or s i 0 → None ≡ digits_of s
       high a b = no-digits s (r.good ∙ opened ∙ simp (le-leb 0x30 (get_or s i 0) a, lt-leb (get_or s i 0) 0x39 b))
 
-    pub done : length s ≤ i → Of n ≡ digits_of s
+    pub done : length s ≤ i → Some n ≡ digits_of s
     unfolding all_digits
     done h =
         let e = drop_of_length-le s h in

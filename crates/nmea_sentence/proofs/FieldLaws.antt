@@ -1,6 +1,6 @@
 -- A walk through a body, field by field: where field i stands, and how many fields there are.
 -- Assumes nothing.
-use mathlib.Core.Path.{◌≡◌, refl, sym, ap, subst, subst₂, ◌∙◌}
+use mathlib.Core.Path.{◌≡◌, refl, sym, ap, subst₂, ◌∙◌}
 use mathlib.Core.Bool.{Bool, true, false, cond}
 use mathlib.Core.List.{List, [], ◌∷◌, ◌++◌, append_assoc, append-nil}
 use mathlib.Core.Option.{Option, none, some}
@@ -9,20 +9,41 @@ use native.Mathlib.Nat.{sub_self}
 use native.Mathlib.Numerals.{add-one}
 use native.Mathlib.Omega.{arith}
 use lib.Dec.{eqb}
-use lib.ListN.{length, get_or, take, drop, get_elem?, length-take, length-drop, drop_of_length-le, take-append-drop}
-use lib.Seq.{drop-cons, drop-drop, take-suc, get_or-drop, length-take-le}
+use lib.ListN.{length, length-append, get_or, take, drop, get_elem?, length-drop, drop_of_length-le}
+use lib.Seq.{drop-cons, take-suc, get_or-drop}
 use borrow.Author.Tests.{eq-eqb, ne_eqb}
 use Rattle.framing.specs.Nmea.{comma_count}
 use Rattle.nmea_sentence.specs.Fields.{before, fields, field_at}
-use Rattle.nmea_sentence.specs.Private.{field_of, span_bytes, Within}
-use Rattle.nmea_sentence.specs.declared.FieldSpan.{FieldSpan}
-use Rattle.nmea_sentence.specs.declared.FieldSpan.TheVariants.{At, Missing}
+
+-- field i, from 0
+unfoldable pub field_of : List ℕ → ℕ → Option (List ℕ)
+field_of s i = get_elem? (fields s) i
 
 -- field n of what begins with the bytes p and goes on with the fields fs
 unfoldable pub pick : List ℕ → List (List ℕ) → ℕ → Option (List ℕ)
 pick p [] n = none
 pick p (f ∷ fs) zero = some (p ++ f)
 pick p (f ∷ fs) (suc n) = get_elem? fs n
+
+-- from a field that may be missing to one that is empty then
+or-empty : (fs : List (List ℕ)) (i : ℕ) (f : List ℕ) → some f ≡ get_elem? fs i → f ≡ get_or fs i []
+or-empty [] i f e = let z : ◌≡◌ {A = ℕ} 0 1 = cc in absurd (omega arith)
+or-empty (g ∷ fs) zero f e = cc
+or-empty (g ∷ fs) (suc i) f e = or-empty fs i f e
+
+none-empty : (fs : List (List ℕ)) (i : ℕ) → none ≡ get_elem? fs i → [] ≡ get_or fs i []
+none-empty [] i e = refl
+none-empty (g ∷ fs) zero e = let z : ◌≡◌ {A = ℕ} 0 1 = cc in absurd (omega arith)
+none-empty (g ∷ fs) (suc i) e = none-empty fs i e
+
+module _ (s : List ℕ) (i : ℕ) where
+  present : {f : List ℕ} → some f ≡ field_of s i → f ≡ field_at s i
+  unfolding field_of field_at
+  present e = or-empty (fields s) i _ e
+
+  absent : none ≡ field_of s i → [] ≡ field_at s i
+  unfolding field_of field_at
+  absent e = none-empty (fields s) i e
 
 -- the walk has passed the first k bytes of s; the field at hand begins at a, and n more come before field i
 pub record Walk (s : List ℕ) (i a n k : ℕ) : Type 0 where
@@ -122,45 +143,23 @@ module _ (s : List ℕ) (i a n k : ℕ) (w : Walk s i a n k) where
         })
 
     -- the comma that ends it
-    pub found : get_or s k 0 ≡ 0x2C → n ≡ 0 → span_bytes s (At a k) ≡ field_of s i
+    pub found : get_or s k 0 ≡ 0x2C → n ≡ 0 → take (k - a) (drop a s) ≡ field_at s i
     found e z =
-        sym (pick-done (take (k - a) (drop a s)) (get_or s k 0) (fields (drop (k + 1) s)) n z)
+        present s i
+        (sym (pick-done (take (k - a) (drop a s)) (get_or s k 0) (fields (drop (k + 1) s)) n z)
         ∙ ap (λ (fs : List (List ℕ)). pick (take (k - a) (drop a s)) fs n) (sym (at-comma s k h e))
-        ∙ w.rest
+        ∙ w.rest)
 
   -- the end of the body
   module _ (h : length s ≤ k) where
     ended : pick (take (k - a) (drop a s)) (fields []) n ≡ field_of s i
     ended = ap (λ (r : List ℕ). pick (take (k - a) (drop a s)) (fields r) n) (sym (drop_of_length-le s h)) ∙ w.rest
 
-    pub last : n ≡ 0 → span_bytes s (At a k) ≡ field_of s i
-    last z = pick-last (take (k - a) (drop a s)) n z ∙ ended
+    pub last : n ≡ 0 → take (k - a) (drop a s) ≡ field_at s i
+    last z = present s i (pick-last (take (k - a) (drop a s)) n z ∙ ended)
 
-    pub missing : (n ≡ 0 → ⊥) → none ≡ field_of s i
-    missing z = pick-past (take (k - a) (drop a s)) n z ∙ ended
-
--- from a field that may be missing to one that is empty then
-or-empty : (fs : List (List ℕ)) (i : ℕ) (f : List ℕ) → some f ≡ get_elem? fs i → f ≡ get_or fs i []
-or-empty [] i f e = let z : ◌≡◌ {A = ℕ} 0 1 = cc in absurd (omega arith)
-or-empty (g ∷ fs) zero f e = cc
-or-empty (g ∷ fs) (suc i) f e = or-empty fs i f e
-
-none-empty : (fs : List (List ℕ)) (i : ℕ) → none ≡ get_elem? fs i → [] ≡ get_or fs i []
-none-empty [] i e = refl
-none-empty (g ∷ fs) zero e = let z : ◌≡◌ {A = ℕ} 0 1 = cc in absurd (omega arith)
-none-empty (g ∷ fs) (suc i) e = none-empty fs i e
-
-module _ (s : List ℕ) (i : ℕ) (r : FieldSpan) (m : span_bytes s r ≡ field_of s i) where
-  pub present : (a e : ℕ) → r ≡ At a e → take (e - a) (drop a s) ≡ field_at s i
-  unfolding field_of field_at
-  present a e h = or-empty (fields s) i _ (ap (span_bytes s) (sym h) ∙ m)
-
-  pub absent : r ≡ Missing → [] ≡ field_at s i
-  unfolding field_of field_at
-  absent h = none-empty (fields s) i (ap (span_bytes s) (sym h) ∙ m)
-
-pub ends : (s : List ℕ) (r : FieldSpan) (a e : ℕ) → Within s r → r ≡ At a e → (a ≤ e) × (e ≤ length s)
-ends s r a e w h = subst (Within s) h w
+    pub missing : (n ≡ 0 → ⊥) → [] ≡ field_at s i
+    missing z = absent s i (pick-past (take (k - a) (drop a s)) n z ∙ ended)
 
 -- n less one is the count of commas in the first k bytes of s
 pub record Count (s : List ℕ) (n k : ℕ) : Type 0 where
@@ -235,21 +234,26 @@ comma-fields (b ∷ s) = go (eqb b 0x2C) (comma-fields s)
     go true ih = omega arith
     go false ih = omega (arith, count-before b (fields s))
 
-pub part-few : (s : List ℕ) (k e : ℕ) → e ≤ k + 255 → length (take (e - k) (drop k s)) ≤ 255
-part-few s k e h = simp length-take (omega arith)
+-- n less one is the count of commas before `rest`, which is looked through in parts of `size` bytes
+pub record Parted (s : List ℕ) (n : ℕ) (rest : List ℕ) (size : ℕ) : Type 0 where
+  pub few : n + length rest ≤ length s + 1
+  pub sum : n + length (fields rest) ≡ 1 + length (fields s)
+  pub parts : size ≡ 255
 
--- m commas in the bytes from k up to e; n₁ is what the code holds after them
-pub count-part : (s : List ℕ) (n k e m : ℕ) → Count s n k → k ≤ e → e ≤ length s → m + 1 ≡ length (fields (take (e - k) (drop k s)))
-    → (n₁ : ℕ) → n₁ ≡ n + m → Count s n₁ e
-count-part s n k e m c h g p n₁ q =
-    let x = take (e - k) (drop k s) in
-    let r = c.rest in
-    let f = c.few in
-    let at : k + (e - k) ≡ e = omega arith in
-    let d : drop (e - k) (drop k s) ≡ drop e s = drop-drop (e - k) k s ∙ ap (λ (i : ℕ). drop i s) at in
-    let j : x ++ drop e s ≡ drop k s = ap (λ (l : List ℕ). x ++ l) (sym d) ∙ take-append-drop (e - k) (drop k s) in
-    let o : length (fields (drop k s)) ≡ length (fields (x ++ drop e s)) = ap (λ (l : List ℕ). length (fields l)) (sym j) in
-    let a = count-joined x (drop e s) in
-    let l : length x ≡ e - k = length-take-le (e - k) (drop k s) (simp length-drop (omega arith)) in
-    let w = count-few x in
-    record { within = g; few = omega arith; rest = omega arith }
+pub parted-start : (s : List ℕ) {rest : List ℕ} {size : ℕ} → rest ≡ s → size ≡ 255 → Parted s 1 rest size
+parted-start s e h = rw e (record { few = omega arith; sum = refl; parts = h })
+
+-- m commas in the part x, and `next` after it
+pub parted-next : (s : List ℕ) (n m : ℕ) {rest next : List ℕ} {size size₁ : ℕ} (x : List ℕ) → Parted s n rest size
+    → rest ≡ x ++ next → m + 1 ≡ length (fields x) → size₁ ≡ size → Parted s (n + m) next size₁
+parted-next s n m {rest} {next} x w e h z =
+    let j = count-joined x next in
+    let k = count-few x in
+    let few : n + length (x ++ next) ≤ length s + 1 = rw e at w.few in
+    let sum : n + length (fields (x ++ next)) ≡ 1 + length (fields s) = rw e at w.sum in
+    record { few = omega (arith, length-append {A = ℕ}); sum = omega arith; parts = z ∙ w.parts }
+
+pub parted-done : (s : List ℕ) (n : ℕ) {rest : List ℕ} {size : ℕ} → Parted s n rest size → length rest ≡ 0 → n ≡ length (fields s)
+unfolding fields
+parted-done s n {rest = []} w h = omega (arith, w.sum)
+parted-done s n {rest = b ∷ rest} w h = absurd (omega arith)

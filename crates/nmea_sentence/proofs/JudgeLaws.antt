@@ -2,21 +2,20 @@
 -- Assumes nothing.
 use Prim.Native.Nat.{ℕ}
 use mathlib.Core.Path.{◌≡◌, refl, sym, ap, ap₂, ◌∙◌}
-use mathlib.Core.Bool.{Bool, true, false}
+use mathlib.Core.Bool.{Bool, true, false, ◌&&◌}
+use lib.Pointwise.{pointwise}
 use mathlib.Core.List.{List, [], ◌∷◌}
 use native.Mathlib.Omega.{arith}
 use lib.Dec.{T, eqb, eqb→eq}
 use lib.Ieee.Fits.{and_l, and_r}
 use lib.ListN.{length}
 use borrow.Author.Tests.{eq-eqb}
-use Rattle.framing.specs.Format.{nmea}
+use Rattle.framing.specs.declared.Format.TheVariants.{Nmea}
 use Rattle.answer.specs.declared.Refusal.{Refusal}
-use Rattle.content.specs.declared.Judged.{Judged}
-use Rattle.content.specs.declared.Judged.TheVariants.{Done, Refused}
-use Rattle.answer.specs.Answer.{Answer, given, refused, unless, refusal_number}
+use Rattle.std.specs.Prelude.{Result, Ok, Err, IsErrAnd}
+use Rattle.answer.specs.Answer.{Answer, given, refused, unless, refusal_number, answer_of}
 use Rattle.answer.proofs.AnswerLaws.{never-0}
 use Rattle.content.specs.Body.{is_frame, body_of, between_of}
-use Rattle.content.specs.Shared.{judged_number}
 use Rattle.content.proofs.BodyLaws.{body-between}
 use Rattle.nmea_sentence.specs.Fields.{fields}
 use Rattle.nmea_sentence.specs.Judge.{eq_bytes, has_tag, in_sentence, refusal_of}
@@ -29,6 +28,13 @@ equal [] (b ∷ y) t = absurd t
 equal (a ∷ x) [] t = absurd t
 equal (a ∷ x) (b ∷ y) t =
     ap₂ (λ (c : ℕ) (l : List ℕ). c ∷ l) (eqb→eq a b (and_l (eqb a b) (eq_bytes x y) t)) (equal x y (and_r (eqb a b) (eq_bytes x y) t))
+
+-- `==` of two slices
+pub by-bytes : (x y : List ℕ) → pointwise eqb x y ≡ eq_bytes x y
+by-bytes [] [] = refl
+by-bytes [] (b ∷ y) = refl
+by-bytes (a ∷ x) [] = refl
+by-bytes (a ∷ x) (b ∷ y) = ap (λ (t : Bool). eqb a b && t) (by-bytes x y)
 
 reflexive : (x : List ℕ) → eq_bytes x x ≡ true
 reflexive [] = refl
@@ -69,26 +75,26 @@ module _ {A : Type 0} (zeros : A) (answer : Answer A) where
   passing false u v n h e = absurd (omega arith)
 
 -- what the three tests say is what `judge` answers
-pub tests-say : (tag : List ℕ) (count : ℕ) (s : List ℕ) {t u v : Bool} → is_frame nmea s ≡ t → has_tag tag (body_of nmea s) ≡ u
-    → eqb (length (fields (body_of nmea s))) count ≡ v → number_in_order t u v ≡ refusal_of tag count s
+pub tests-say : (tag : List ℕ) (count : ℕ) (s : List ℕ) {t u v : Bool} → is_frame Nmea s ≡ t → has_tag tag (body_of Nmea s) ≡ u
+    → eqb (length (fields (body_of Nmea s))) count ≡ v → number_in_order t u v ≡ refusal_of tag count s
 unfolding refusal_of
 tests-say tag count s e f g = rw (← e, ← f, ← g)
 
--- j is what `judge` answered
-module _ {A : Type 0} (zeros : A) (tag : List ℕ) (count : ℕ) (s : List ℕ) (answer : Answer A) (j : Judged) (e : judged_number j ≡ refusal_of tag count s) where
-  -- the field function hands the refusal on
-  pub judged-refused : (r : Refusal) → j ≡ Refused r → refused zeros (refusal_number r) ≡ in_sentence zeros tag count s answer
+module _ {A : Type 0} (zeros : A) (answer : Answer A) (tag : List ℕ) (count : ℕ) (s : List ℕ) where
+  -- q is what `judge` refused, which the field function hands on
+  pub sentence_refused : {R : Type 0} (value : R → A) (x : Result R Refusal) (q : Refusal) → IsErrAnd x (λ y. y ≡ q) → refusal_number q ≡ refusal_of tag count s
+      → answer_of zeros value x ≡ in_sentence zeros tag count s answer
   unfolding refusal_of
-  judged-refused r h =
-      refusing zeros answer (is_frame nmea s) (has_tag tag (body_of nmea s)) (eqb (length (fields (body_of nmea s))) count)
-      (refusal_number r) (never-0 r) (ap judged_number (sym h) ∙ e)
+  sentence_refused value (Ok x) q h e = absurd h
+  sentence_refused value (Err y) q h e =
+      refusing zeros answer (is_frame Nmea s) (has_tag tag (body_of Nmea s)) (eqb (length (fields (body_of Nmea s))) count)
+      (refusal_number y) (never-0 y) (ap refusal_number h ∙ e)
 
-  -- none: the field function answers what it computes
-  pub judged-done : j ≡ Done → answer ≡ in_sentence zeros tag count s answer
+  -- nothing: the field function answers what it computes
+  pub sentence_done : {x : Answer A} → ◌≡◌ {A = ℕ} 0 (refusal_of tag count s) → x ≡ answer → x ≡ in_sentence zeros tag count s answer
   unfolding refusal_of
-  judged-done h =
-      passing zeros answer (is_frame nmea s) (has_tag tag (body_of nmea s)) (eqb (length (fields (body_of nmea s))) count)
-      (judged_number j) (ap judged_number h) e
+  sentence_done e h =
+      h ∙ passing zeros answer (is_frame Nmea s) (has_tag tag (body_of Nmea s)) (eqb (length (fields (body_of Nmea s))) count) 0 refl e
 
 frame-and-tag : (t u v : Bool) → 0 ≡ number_in_order t u v → (t ≡ true) × (u ≡ true)
 frame-and-tag true true v e = (refl, refl)
@@ -96,15 +102,15 @@ frame-and-tag true false v e = absurd (omega arith)
 frame-and-tag false u v e = absurd (omega arith)
 
 -- where `judge` refused nothing
-module _ (tag : List ℕ) (count : ℕ) (s : List ℕ) (j : Judged) (e : judged_number j ≡ refusal_of tag count s) (h : j ≡ Done) where
-  held : (is_frame nmea s ≡ true) × (has_tag tag (body_of nmea s) ≡ true)
+module _ (tag : List ℕ) (count : ℕ) (s : List ℕ) (e : ◌≡◌ {A = ℕ} 0 (refusal_of tag count s)) where
+  held : (is_frame Nmea s ≡ true) × (has_tag tag (body_of Nmea s) ≡ true)
   unfolding refusal_of
-  held = frame-and-tag (is_frame nmea s) (has_tag tag (body_of nmea s)) (eqb (length (fields (body_of nmea s))) count) (ap judged_number (sym h) ∙ e)
+  held = frame-and-tag (is_frame Nmea s) (has_tag tag (body_of Nmea s)) (eqb (length (fields (body_of Nmea s))) count) e
 
   -- the sentence is one frame: its body is what is between its head and its tail
-  pub judged-body : between_of nmea s ≡ body_of nmea s
-  judged-body = body-between nmea s held.0
+  pub judged-body : between_of Nmea s ≡ body_of Nmea s
+  judged-body = body-between Nmea s held.0
 
   -- and begins with the tag
-  pub judged-tag : {b : List ℕ} → b ≡ between_of nmea s → has_tag tag b ≡ true
+  pub judged-tag : {b : List ℕ} → b ≡ between_of Nmea s → has_tag tag b ≡ true
   judged-tag b = ap (has_tag tag) (b ∙ judged-body) ∙ held.1

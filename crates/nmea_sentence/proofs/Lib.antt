@@ -4,5 +4,4 @@ pub mod DigitLaws
 pub mod JudgeLaws
 pub mod JoinLaws
 pub mod FromLaws
-pub mod TagLaws
 pub mod CountLaws

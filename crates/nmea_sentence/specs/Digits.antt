@@ -1,8 +1,6 @@
 -- Decimal digits (docs/FORMATS.md, "NMEA content").
-use Rattle.std.specs.Prelude.{ℕ, ◌+◌, ◌-◌, ◌*◌, Bool, true, cond, ◌&&◌, leb, length}
+use Rattle.std.specs.Prelude.{ℕ, ◌+◌, ◌-◌, ◌*◌, Bool, true, cond, ◌&&◌, leb, length, Option, Some, None}
 use mathlib.Core.List.{List, [], ◌∷◌, foldl}
-use Rattle.nmea_sentence.specs.declared.Digits.{Digits}
-use Rattle.nmea_sentence.specs.declared.Digits.TheVariants.{Of, None}
 
 -- every byte is one of 0 to 9
 unfoldable pub all_digits : List ℕ → Bool
@@ -17,5 +15,5 @@ unfoldable pub decimal : List ℕ → ℕ
 decimal s = foldl next_digit 0 s
 
 -- the number of up to nine digits, 0 for none; more are never read
-unfoldable pub digits_of : List ℕ → Digits
-digits_of s = cond (leb (length s) 9 && all_digits s) (Of (decimal s)) None
+unfoldable pub digits_of : List ℕ → Option ℕ
+digits_of s = cond (leb (length s) 9 && all_digits s) (Some (decimal s)) None

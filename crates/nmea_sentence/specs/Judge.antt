@@ -1,6 +1,6 @@
 -- What every field function of a sentence judges first (docs/FORMATS.md, "NMEA content").
 use Rattle.std.specs.Prelude.{ℕ, Bool, true, false, ◌&&◌, List, [], ◌∷◌, eqb, length}
-use Rattle.framing.specs.Format.{nmea}
+use Rattle.framing.specs.declared.Format.TheVariants.{Nmea}
 use Rattle.answer.specs.Answer.{Answer, given, unless}
 use Rattle.content.specs.Body.{is_frame, body_of}
 use Rattle.nmea_sentence.specs.Fields.{fields, field_at}
@@ -19,14 +19,14 @@ has_tag tag body = eq_bytes (field_at body 0) tag
 -- a sentence with this tag and so many fields, the tag among them: else 7, 8 or 9
 abbrev pub in_sentence : {A : Type 0} → A → List ℕ → ℕ → List ℕ → Answer A → Answer A
 in_sentence zeros tag count s answer =
-    unless zeros (is_frame nmea s) 7
-    (unless zeros (has_tag tag (body_of nmea s)) 8
-    (unless zeros (eqb (length (fields (body_of nmea s))) count) 9
+    unless zeros (is_frame Nmea s) 7
+    (unless zeros (has_tag tag (body_of Nmea s)) 8
+    (unless zeros (eqb (length (fields (body_of Nmea s))) count) 9
     answer))
 
 -- field i of a sentence
 abbrev pub field_in : List ℕ → ℕ → List ℕ
-field_in s i = field_at (body_of nmea s) i
+field_in s i = field_at (body_of Nmea s) i
 
 -- what `judge` promises: the number alone, which is 0 where `in_sentence` hands on the answer given
 unfoldable pub refusal_of : List ℕ → ℕ → List ℕ → ℕ

@@ -4,6 +4,7 @@
 use Rattle.std.proofs.Common.{◌≡◌, ℕ, zero, suc, ◌+◌, ◌*◌, ◌/◌, ◌%◌, ◌^◌, ◌<◌, ◌≤◌, List, ◌∷◌, ◌++◌, length, get_or, take, drop, sym, refl, ap, ◌∙◌, ap₂, add-zero, add_comm, pow-suc, div-one, arith, lit<, drop-cons, get_or-append-add}
 use native.Mathlib.Nat.{mod-one, one-le-pow, pow-succ', div-div-eq-div-mul}
 use lib.Arith.{mod-mul}
+use Rattle.std.specs.Int.{Width, byte_len, byte_at, bytes_low_first, to_le_bytes}
 use Rattle.numbers.specs.Low.{low, low_bytes}
 
 pub length-low_bytes : (k n : ℕ) → length (low_bytes k n) ≡ k
@@ -60,3 +61,21 @@ bytes-of-low (suc k) s at l h =
   where
     later : (i : ℕ) → i < k → get_or s (suc at + i) 0 ≤ 255
     later i g = let n : at + suc i ≡ suc at + i = omega arith in rw n at (h (suc i) (omega arith))
+
+-- ---- std's words
+
+std_bytes : (i k n : ℕ) → bytes_low_first i k n ≡ low_bytes k (n / 256 ^ i)
+unfolding low_bytes
+std_bytes i zero n = refl
+std_bytes i (suc k) n = ap₂ (λ (b : ℕ) (bs : List ℕ). b ∷ bs) (byte i) (std_bytes (suc i) k n ∙ ap (low_bytes k) next)
+  where
+    byte : (i : ℕ) → byte_at i n ≡ n / 256 ^ i % 256
+    byte zero = ap (λ (m : ℕ). m % 256) (sym (div-one n))
+    byte (suc i) = refl
+
+    next : n / 256 ^ suc i ≡ n / 256 ^ i / 256
+    next = ap (λ (m : ℕ). n / m) (pow-suc 256 i) ∙ sym (div-div-eq-div-mul n (256 ^ i) 256)
+
+-- the bytes of `n.to_le_bytes()`
+pub to_le_bytes-low : (w : Width) (n : ℕ) → to_le_bytes w n ≡ low_bytes (byte_len w) n
+to_le_bytes-low w n = std_bytes 0 (byte_len w) n ∙ ap (low_bytes (byte_len w)) (div-one n)

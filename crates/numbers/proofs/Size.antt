@@ -1,12 +1,11 @@
 -- The size of a signed number, and a size below 0, over the width.
 -- Assumes nothing.
-use Rattle.std.proofs.Common.{◌≡◌, ℕ, zero, suc, ◌+◌, ◌-◌, ◌*◌, ◌%◌, ◌^◌, ◌<◌, ◌≤◌, Bool, true, false, not, T, leb, ℤ, pos, negsuc, neg_ℤ, nat_abs, sym, refl, ap, ◌∙◌, subst, mod-eq_of_lt, arith, pow_pos, to_z-of_z, Fits, SFits, to_z, of_z}
+use Rattle.std.proofs.Common.{◌≡◌, ℕ, zero, suc, ◌-◌, ◌%◌, ◌^◌, ◌<◌, ◌≤◌, Bool, true, false, not, T, leb, ℤ, pos, negsuc, neg_ℤ, nat_abs, sym, refl, ap, ◌∙◌, subst, mod-eq_of_lt, arith, pow_pos, to_z-of_z, SFits, to_z, of_z}
 use native.Mathlib.Nat.{mod_self, sub-zero}
 use lib.Signed.{mag, non_neg, lt_z}
 use lib.Dec.{leb-suc-zero}
 use mir.Syntax.{Width}
 use mir.Val.{bits, hbits}
-use mir.ValLaws.{pow-bits}
 use mir.Facts.{to_z_pos, to_z-neg, sfits_widen}
 use Rattle.numbers.specs.Low.{minus}
 
@@ -14,33 +13,6 @@ clash : {X : Type 0} → ◌≡◌ {A = Bool} true false → X
 clash e = absurd (subst T e tt)
 
 module _ (w : Width) where
-  -- y is the turned z, which is below 0: it is not below 0, and its size is one less
-  pub record Down (y z : ℤ) : Type 0 where
-    pub cast : T (non_neg y) × Fits w (nat_abs y)
-    pub sum : Fits w (nat_abs y + 1)
-    pub same : nat_abs y + 1 ≡ nat_abs z
-
-  plain : (y z : ℤ) (n : ℕ) → y ≡ pos n → z ≡ negsuc n → n < 2 ^ hbits w → Down y z
-  plain y z n e d h =
-      let p : 2 ^ bits w ≡ 2 ^ hbits w * 2 = pow-bits w in
-      subst (λ (a : ℤ). Down a z) (sym e) (subst (λ (a : ℤ). Down (pos n) a) (sym d)
-      (record { cast = (tt, record { fits = omega arith }); sum = record { fits = omega arith }; same = omega arith }))
-
-  turned : (n : ℕ) → n < 2 ^ hbits w → (2 ^ bits w - 1) - (2 ^ bits w - suc n) ≡ n
-  turned n h = let p : 2 ^ bits w ≡ 2 ^ hbits w * 2 = pow-bits w in omega arith
-
-  pub down : (z : ℤ) → SFits w z → lt_z (to_z w (of_z w z)) (pos 0) ≡ true → Down (to_z w ((2 ^ bits w - 1) - of_z w z)) z
-  down (pos n) f t = clash (sym t ∙ ap (λ (a : ℤ). lt_z a (pos 0)) (to_z-of_z {w = w} f) ∙ leb-suc-zero n)
-  down (negsuc n) f t = plain _ _ n (ap (to_z w) (turned n f.sfits) ∙ to_z_pos w f.sfits) refl f.sfits
-
-  -- z is not below 0: the bits are its size
-  pub up : (z : ℤ) → SFits w z → lt_z (to_z w (of_z w z)) (pos 0) ≡ false → T (non_neg (to_z w (of_z w z))) × Fits w (nat_abs (to_z w (of_z w z)))
-  up z f t = subst (λ (a : ℤ). lt_z a (pos 0) ≡ false → T (non_neg a) × Fits w (nat_abs a)) (sym (to_z-of_z {w = w} f)) (go z f) t
-    where
-      go : (a : ℤ) → SFits w a → lt_z a (pos 0) ≡ false → T (non_neg a) × Fits w (nat_abs a)
-      go (pos n) h t = (tt, record { fits = let p : 2 ^ bits w ≡ 2 ^ hbits w * 2 = pow-bits w in let q = h.sfits in omega arith })
-      go (negsuc n) h t = clash t
-
   -- the test z < 0, as the code makes it, and z's sign
   pub test-yes : (z : ℤ) → SFits w z → lt_z (to_z w (of_z w z)) (pos 0) ≡ true → T (not (non_neg z))
   test-yes (pos n) f t = clash (sym t ∙ ap (λ (a : ℤ). lt_z a (pos 0)) (to_z-of_z {w = w} f) ∙ leb-suc-zero n)

@@ -1,10 +1,9 @@
 -- The status of an OnFlight frame (docs/FORMATS.md, "OnFlight content").
-use Rattle.std.specs.Prelude.{ℕ, zero, suc, ◌+◌, ◌/◌, ◌%◌, ◌^◌, List, [], ◌∷◌, slice_index}
-use Rattle.framing.specs.Format.{onflight}
-use Rattle.answer.specs.Answer.{Answer, given, unless}
+use Rattle.std.specs.Prelude.{ℕ, zero, suc, ◌+◌, ◌/◌, ◌%◌, ◌^◌, List, [], ◌∷◌, slice_index, Result}
+use Rattle.framing.specs.declared.Format.TheVariants.{Onflight}
+use Rattle.answer.specs.declared.Refusal.{Refusal}
+use Rattle.answer.specs.Answer.{Answer, given, unless, answer_of}
 use Rattle.content.specs.Body.{is_frame}
-use Rattle.content.specs.Shared.{judged_number}
-use Rattle.onflight.specs.declared.status.StatusResult.{StatusResult}
 
 -- bytes 4 to 9
 unfoldable pub status_bytes : List ℕ → List ℕ
@@ -13,11 +12,11 @@ status_bytes s = slice_index s 4 ∷ slice_index s 5 ∷ slice_index s 6 ∷ sli
 abbrev pub no_status : List ℕ
 no_status = 0 ∷ 0 ∷ 0 ∷ 0 ∷ 0 ∷ 0 ∷ []
 
-abbrev pub status_answer : StatusResult → Answer (List ℕ)
-status_answer r = record { number = judged_number r.answer; value = r.bytes }
+abbrev pub status_answer : Result (List ℕ) Refusal → Answer (List ℕ)
+status_answer r = answer_of no_status (λ s. s) r
 
 unfoldable pub status_of : List ℕ → Answer (List ℕ)
-status_of s = unless no_status (is_frame onflight s) 7 (given (status_bytes s))
+status_of s = unless no_status (is_frame Onflight s) 7 (given (status_bytes s))
 
 -- ---- how many named bits are set
 
@@ -35,4 +34,4 @@ unfoldable pub set_bits : List ℕ → ℕ
 set_bits status = sum_below (bit_at status) 42
 
 unfoldable pub set_bits_of : List ℕ → Answer ℕ
-set_bits_of s = unless 0 (is_frame onflight s) 7 (given (set_bits (status_bytes s)))
+set_bits_of s = unless 0 (is_frame Onflight s) 7 (given (set_bits (status_bytes s)))

@@ -5,15 +5,9 @@ ghost use Rattle.onflight.specs.Status.{set_bits, status_bytes, status_answer, s
 ghost use Rattle.onflight.specs.Private.{bits_of};
 
 use answer::Refusal;
-use content::{Judged, NumberResult};
+use framing::Format;
 
-// The bytes stand beside the answer (docs/DECISIONS.md, "What a field function answers"): zeros where it is a refusal.
-#[derive(Clone, Copy)]
-pub struct StatusResult {
-    pub answer: Judged,
-    pub bytes: [u8; 6],
-}
-
+#[tactic(auto, unfolding(crate::specs::Status::status_bytes))]
 fn bytes_of(s: &[u8]) -> [u8; 6]
     ensures { result ≡ status_bytes s.now }
 {
@@ -27,25 +21,18 @@ fn bytes_of(s: &[u8]) -> [u8; 6]
     ]
 }
 
-pub fn read_status(s: &[u8]) -> StatusResult
+#[tactic(auto, using(content::proofs::JudgeLaws::judging), unfolding(crate::specs::Status::status_of))]
+pub fn read_status(s: &[u8]) -> Result<[u8; 6], Refusal>
     ensures { status_answer result ≡ status_of s.now }
 {
-    if !content::is_frame(2, s) {
-        return StatusResult {
-            answer: Judged::Refused(Refusal::NotOneFrame),
-            bytes: [0; 6],
-        };
-    }
-    StatusResult {
-        answer: Judged::Done,
-        bytes: bytes_of(s),
-    }
+    content::judge(Format::Onflight, s)?;
+    Ok(bytes_of(s))
 }
 
 fn ones_of(b: u8) -> u32
     ensures { (result ≡ bits_of 8 b) × (result ≤ 8) }
 {
-    u8::count_ones(b)
+    b.count_ones()
 }
 
 // Five bytes, and of the sixth the two named bits: its remainder by 4.
@@ -61,12 +48,10 @@ fn set_bits(status: &[u8; 6]) -> u32
 }
 
 // How many of the 42 named status bits are set.
-pub fn read_set_bits(s: &[u8]) -> NumberResult
+#[tactic(auto, using(content::proofs::JudgeLaws::judging), unfolding(crate::specs::Status::set_bits_of))]
+pub fn read_set_bits(s: &[u8]) -> Result<u32, Refusal>
     ensures { number_answer result ≡ set_bits_of s.now }
 {
-    if !content::is_frame(2, s) {
-        return NumberResult::Refused(Refusal::NotOneFrame);
-    }
-    let bytes = bytes_of(s);
-    NumberResult::Read(set_bits(&bytes))
+    content::judge(Format::Onflight, s)?;
+    Ok(set_bits(&bytes_of(s)))
 }

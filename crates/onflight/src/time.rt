@@ -4,41 +4,35 @@ ghost use Rattle.content.specs.Shared.{clock_answer, number_answer};
 ghost use Rattle.onflight.specs.Time.{boot_of, elapsed_of, onflight_clock_of};
 
 use answer::Refusal;
-use calendar::DateTime;
-use content::{ClockResult, NumberResult};
+use calendar::{Clock, DateTime};
+use framing::Format;
+use numbers::LittleEndian;
 
 // Milliseconds since boot, which roll over at 2 ^ 32.
-pub fn read_boot_time(s: &[u8]) -> NumberResult
+#[tactic(auto, using(content::proofs::JudgeLaws::judging), unfolding(crate::specs::Time::boot_of))]
+pub fn read_boot_time(s: &[u8]) -> Result<u32, Refusal>
     ensures { number_answer result ≡ boot_of s.now }
 {
-    if !content::is_frame(2, s) {
-        return NumberResult::Refused(Refusal::NotOneFrame);
-    }
-    NumberResult::Read(numbers::u32_at(s, 10))
+    content::judge(Format::Onflight, s)?;
+    Ok(u32::at(s, 10))
 }
 
 // Milliseconds from frame a to frame b.
-pub fn read_elapsed(a: &[u8], b: &[u8]) -> NumberResult
+#[tactic(auto, using(content::proofs::JudgeLaws::judging), unfolding(crate::specs::Time::elapsed_of))]
+pub fn read_elapsed(a: &[u8], b: &[u8]) -> Result<u32, Refusal>
     ensures { number_answer result ≡ elapsed_of a.now b.now }
 {
-    if !content::is_frame(2, a) {
-        return NumberResult::Refused(Refusal::NotOneFrame);
-    }
-    if !content::is_frame(2, b) {
-        return NumberResult::Refused(Refusal::NotOneFrame);
-    }
-    let from = numbers::u32_at(a, 10);
-    let to = numbers::u32_at(b, 10);
-    NumberResult::Read(std::num::wrapping_sub_u32(to, from))
+    content::judge(Format::Onflight, a)?;
+    content::judge(Format::Onflight, b)?;
+    Ok(u32::at(b, 10).wrapping_sub(u32::at(a, 10)))
 }
 
 // The clock, in six bytes from 41 on; the year counts from 1970.
-pub fn read_clock(s: &[u8]) -> ClockResult
+#[tactic(auto, using(content::proofs::JudgeLaws::judging), unfolding(crate::specs::Time::onflight_clock_of))]
+pub fn read_clock(s: &[u8]) -> Result<Clock, Refusal>
     ensures { clock_answer result ≡ onflight_clock_of s.now }
 {
-    if !content::is_frame(2, s) {
-        return ClockResult::Refused(Refusal::NotOneFrame);
-    }
+    content::judge(Format::Onflight, s)?;
     let t = DateTime {
         year: numbers::byte_at(s, 41, 0),
         month: numbers::byte_at(s, 42, 0),
@@ -47,5 +41,5 @@ pub fn read_clock(s: &[u8]) -> ClockResult
         minute: numbers::byte_at(s, 45, 0),
         second: numbers::byte_at(s, 46, 0),
     };
-    ClockResult::Read(calendar::binary_clock(t, 1970, 255))
+    Ok(calendar::binary_clock(t, 1970, 255))
 }

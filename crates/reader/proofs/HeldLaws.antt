@@ -1,12 +1,12 @@
 -- Parts of a slice as the code takes them, and bytes copied to be held or joined. Assumes nothing.
-use Prim.Native.Nat.{ℕ, ◌+◌, ◌-◌, ◌≤◌, ◌<◌}
+use Prim.Native.Nat.{ℕ, ◌+◌, ◌-◌, ◌≤◌}
 use mathlib.Core.Path.{◌≡◌, sym, ap, ◌∙◌}
 use mathlib.Core.List.{List, [], ◌++◌, append-nil}
-use native.Mathlib.Decide.{dec_le}
 use native.Mathlib.Nat.{add-sub_cancel_left}
 use native.Mathlib.Omega.{arith}
-use lib.ListN.{length, take, drop, replicate, get_or, take-append-drop, length-append, length-drop, length-take, drop_of_length-le}
-use lib.Seq.{take_all, take-nil, take-add, take_at, drop_at, length-take-le, get_or-drop, get_or-append-add, paste, length_paste_head}
+use Rattle.std.proofs.lemmas.List.{take_rest, drop-take}
+use lib.ListN.{length, take, drop, replicate, take-append-drop, length-append, length-drop, drop_of_length-le}
+use lib.Seq.{take_at, drop_at, length-take-le, paste, length_paste_head}
 use Rattle.buffer.specs.Buffer.{put, copied}
 use Rattle.buffer.proofs.BufferLaws.{start-copied, put-copied, put-behind}
 use Rattle.reader.specs.State.{held_length, held_bytes}
@@ -14,11 +14,8 @@ use Rattle.reader.specs.State.{held_length, held_bytes}
 -- ---- parts
 
 -- `&s[a..]`
-pub tail-part : (s : List ℕ) (a : ℕ) → take (length s - a) (drop a s) ≡ drop a s
-tail-part s a = take_all (length s - a) (drop a s) (simp length-drop (omega arith))
-
 pub tail-length : (s : List ℕ) (a : ℕ) → length (take (length s - a) (drop a s)) ≡ length s - a
-tail-length s a = ap length (tail-part s a) ∙ length-drop a s
+tail-length s a = ap length (take_rest s a) ∙ length-drop a s
 
 -- `&s[a..a + n]`
 pub mid-part : (s : List ℕ) (a n : ℕ) → take (a + n - a) (drop a s) ≡ take n (drop a s)
@@ -41,32 +38,12 @@ appended held b p h =
 
 -- ---- bytes that are moved to the start
 
--- what is read is not written yet
-pub read-ahead : (h : List ℕ) (from j : ℕ) → from + j < length h → get_or (paste h 0 (drop from h) j) (from + j) 0 ≡ get_or (drop from h) j 0
-read-ahead h from j l =
-    let xs = take 0 h ++ take j (drop from h) in
-    let e : from + j ≡ length xs + from = omega (arith, length_paste_head h 0 (drop from h) j (omega arith) (omega (arith, length-drop from h))) in
-    ap (λ (k : ℕ). get_or (paste h 0 (drop from h) j) k 0) e
-    ∙ get_or-append-add xs (drop (0 + j) h) from 0
-    ∙ get_or-drop (0 + j) h from 0
-    ∙ ap (λ (k : ℕ). get_or h k 0) (omega arith)
-    ∙ sym (get_or-drop from h j 0)
-
 pub shifted : (h : List ℕ) (from n : ℕ) → from + n ≤ length h → take n (paste h 0 (drop from h) n) ≡ take n (drop from h)
 shifted h from n l =
     take_at (take 0 h ++ take n (drop from h)) (drop (0 + n) h) n
     (omega (arith, length_paste_head h 0 (drop from h) n (omega arith) (omega (arith, length-drop from h))))
 
 -- the bytes of a line from used on, with zeros behind them
-drop-take : (n m : ℕ) (h : List ℕ) → drop n (take (n + m) h) ≡ take m (drop n h)
-drop-take n m h = ap (drop n) (take-add n m h) ∙ go (dec_le n (length h))
-  where
-    go : Dec (n ≤ length h) → drop n (take n h ++ take m (drop n h)) ≡ take m (drop n h)
-    go (yes l) = drop_at (take n h) (take m (drop n h)) n (length-take-le n h l)
-    go (no l) =
-        let e : drop n h ≡ [] = drop_of_length-le h {i = n} (omega arith) in
-        rw (e, take-nil m, append-nil (take n h)) (drop_of_length-le (take n h) {i = n} (omega (arith, length-take n h)))
-
 pub rest_part : (h : List ℕ) (used total : ℕ) → used ≤ total → drop used (take total h) ≡ take (total - used) (drop used h)
 rest_part h used total u =
     let q : total ≡ used + (total - used) = omega arith in
@@ -80,6 +57,13 @@ holds-rest h h₁ used total u t l k e =
     let m : length (take n (drop used h)) ≡ n = length-take-le n (drop used h) (omega (arith, length-drop used h)) in
     rw (rest_part h used total u, m, e, k, l)
 
+-- zeros from a place on
+pub cleared : (h zs : List ℕ) (n : ℕ) → zs ≡ replicate (length (take (length h - n) (drop n h))) 0
+    → take n h ++ (zs ++ drop (length h - n) (drop n h)) ≡ take n h ++ replicate (length h - n) 0
+cleared h zs n e =
+    let none : drop (length h - n) (drop n h) ≡ [] = drop_of_length-le (drop n h) {i = length h - n} (rw (length-drop n h) (omega arith)) in
+    rw (e, tail-length h n, none) (ap (λ (x : List ℕ). take n h ++ x) (append-nil (replicate (length h - n) 0)))
+
 -- ---- an output of which the later part is lent again
 
 -- bytes put at the start, and then others in the part behind them
@@ -89,4 +73,4 @@ laid_on a b out out₁ ys n l p q =
     let back : drop n out₁ ≡ drop (length a) out = ap (drop n) p ∙ drop_at a (drop (length a) out) n l in
     let fore : take n out₁ ≡ a = ap (take n) p ∙ take_at a (drop (length a) out) n l in
     let none : drop (length out₁ - n) (drop n out₁) ≡ [] = drop_of_length-le (drop n out₁) {i = length out₁ - n} (rw (length-drop n out₁) (omega arith)) in
-    rw (fore, none, append-nil ys, q, tail-part out₁ n, back) (put-behind a b out)
+    rw (fore, none, append-nil ys, q, take_rest out₁ n, back) (put-behind a b out)

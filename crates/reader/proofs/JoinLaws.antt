@@ -6,12 +6,14 @@ use native.Mathlib.Omega.{arith}
 use lib.ListN.{length, take, drop, take-append-drop, length-append}
 use lib.Seq.{length-take-le, drop-append-le, drop-append-add, take_at, drop_at}
 use Rattle.buffer.specs.Buffer.{put}
-use Rattle.framing.specs.Format.{Format, pending_bound}
+use Rattle.framing.specs.declared.Format.{Format}
+use Rattle.framing.specs.Format.{pending_bound}
 use Rattle.framing.specs.Reading.{ongoing, Reading, read, extend, joined, one_frame, framed_bytes, skipped_bytes, framed_count, skipped_count}
 use Rattle.framing.proofs.ReadingLaws.{streaming, pending-bound, balance, total-append, joined-append, length-joined}
 use Rattle.reader.specs.declared.lines.LineCounts.{LineCounts}
 use Rattle.reader.specs.Private.{line_counts_of, Joined}
-use Rattle.reader.proofs.HeldLaws.{tail-part, laid_on}
+use Rattle.reader.proofs.HeldLaws.{tail-length, laid_on}
+use Rattle.std.proofs.lemmas.List.{take_rest}
 use Rattle.reader.proofs.StepLaws.{frames-most, rest-stands}
 
 -- how far a reading came
@@ -46,6 +48,22 @@ module _ (f : Format) (line : List ℕ) (pending : ℕ) (bytes out : List ℕ) (
   pub used-short : used_of g ≤ pending + length bytes
   used-short = omega (arith, balance ongoing f line, j.short)
 
+  -- the counts of the two
+  module _ {w : LineCounts} (e : w ≡ line_counts_of g) where
+    pub first-past : pending ≤ w.framed + w.skipped
+    first-past = rw e used-held
+
+    pub first-short : w.framed + w.skipped ≤ pending + length bytes
+    first-short = rw e used-short
+
+    pub both-most : {v : LineCounts}
+        → v ≡ line_counts_of (read ongoing f (take (length bytes - (w.framed + w.skipped - pending)) (drop (w.framed + w.skipped - pending) bytes)))
+        → (w.framed + w.skipped + (v.framed + v.skipped) ≤ pending + length bytes) × (w.frames + v.frames ≤ w.framed + v.framed)
+    both-most q =
+        let m = counts-most f line w e in
+        let k = counts-most f (take (length bytes - (w.framed + w.skipped - pending)) (drop (w.framed + w.skipped - pending) bytes)) _ q in
+        (omega (arith, k.0, tail-length bytes (w.framed + w.skipped - pending), first-past, first-short), omega (arith, m.1, k.1))
+
   whole : line ++ drop (length line - pending) bytes ≡ start ++ bytes
   whole =
       let k = length line - pending in
@@ -72,9 +90,9 @@ module _ (f : Format) (line : List ℕ) (pending : ℕ) (bytes out : List ℕ) (
       → (record { framed = w.framed + v.framed; skipped = w.skipped + v.skipped; frames = w.frames + v.frames } ≡ line_counts_of (read ongoing f (start ++ bytes)))
       × (take w.framed out₁ ++ (ys ++ drop (length out₁ - w.framed) (drop w.framed out₁)) ≡ put (joined (read ongoing f (start ++ bytes)).events) out)
   resumed w v out₁ ys e l q m =
-      let p : v ≡ line_counts_of h = rw (e, tail-part bytes (used_of g - pending)) at q in
+      let p : v ≡ line_counts_of h = rw (e, take_rest bytes (used_of g - pending)) at q in
       let n : ys ≡ put (joined h.events) (take (length out₁ - framed_count g) (drop (framed_count g) out₁)) =
-      rw (e, tail-part bytes (used_of g - pending)) at m in
+      rw (e, take_rest bytes (used_of g - pending)) at m in
       rw (e, resumes, p) (
         rw (total-append framed_bytes g.events h.events, total-append skipped_bytes g.events h.events, total-append one_frame g.events h.events),
         rw (joined-append g.events h.events) (laid_on (joined g.events) (joined h.events) out out₁ ys (framed_count g) (length-joined g.events) l n),

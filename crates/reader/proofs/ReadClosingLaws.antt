@@ -1,8 +1,9 @@
 -- The closing reading from its first step and that of the rest, its frames put into the output. Assumes nothing.
 use Prim.Native.Nat.{ℕ, ◌+◌, ◌-◌, ◌≤◌, ◌<◌}
-use mathlib.Core.Path.{◌≡◌, refl, sym, ap, ◌∙◌}
+use mathlib.Core.Path.{◌≡◌, refl, ap, ◌∙◌}
 use mathlib.Core.List.{List, [], ◌∷◌, ◌++◌}
 use native.Mathlib.Omega.{arith}
+use Rattle.std.proofs.Common.{Some, None}
 use lib.ListN.{length, take, drop}
 use lib.Seq.{length-take-le}
 use Rattle.buffer.specs.Buffer.{put, copied}
@@ -11,14 +12,15 @@ use Rattle.framing.specs.declared.Reason.{Reason}
 use Rattle.framing.specs.declared.Reason.TheVariants.{RanOut}
 use Rattle.framing.specs.declared.Found.{Found}
 use Rattle.framing.specs.declared.Found.TheVariants.{Frame, Start, Neither}
-use Rattle.framing.specs.Format.{Format}
+use Rattle.framing.specs.declared.Format.{Format}
 use Rattle.framing.specs.Frame.{front}
 use Rattle.framing.specs.Reading.{closing, skipped, read, joined}
 use Rattle.framing.proofs.ReadingLaws.{read-nil, closing-rest, balance}
 use Rattle.reader.specs.declared.lines.LineCounts.{LineCounts}
-use Rattle.framing.specs.FrameRun.{frame_length}
+use Rattle.framing.specs.FrameRun.{length_found}
 use Rattle.reader.specs.Private.{line_counts_of}
-use Rattle.reader.proofs.HeldLaws.{tail-part, laid_on}
+use Rattle.reader.proofs.HeldLaws.{laid_on}
+use Rattle.std.proofs.lemmas.List.{take_rest}
 use Rattle.reader.proofs.StepLaws.{Step, frame-inside, frame_step, skip_step, close-step, frames-most}
 
 -- what going through xs to the end answers and leaves
@@ -42,25 +44,32 @@ closing-most f xs out out' w h =
       few = frames-most closing f xs;
     })
 
-pub length-frame : (f : Format) (xs : List ℕ) (n : ℕ) → n ≡ frame_length (front f xs) → (n ≡ 0 → ⊥) → front f xs ≡ Frame n
-length-frame f xs n e h = go (front f xs) e
-  where
-    go : (o : Found) → n ≡ frame_length o → o ≡ Frame n
-    go (Frame k) p = ap Frame (sym p)
-    go Start p = absurd (h p)
-    go (Neither r) p = absurd (h p)
+-- ---- what the code finds at the start of xs
+
+-- a frame, which ends in xs
+module _ (f : Format) (xs : List ℕ) {n : ℕ} (e : length_found (front f xs) ≡ Some n) where
+  pub frame-there : front f xs ≡ Frame n
+  frame-there = go (front f xs) e
+    where
+      go : (o : Found) → length_found o ≡ Some n → o ≡ Frame n
+      go (Frame k) p = let q : k ≡ n = cc p in ap Frame q
+      go Start p = cc p
+      go (Neither r) p = cc p
+
+  pub frame-ends : (0 < n) × (n ≤ length xs)
+  frame-ends = frame-inside f xs n frame-there
 
 -- where no frame stands, a byte is skipped for some reason
 record Skips (f : Format) (xs : List ℕ) : Type 0 where
   reason : Reason
   step : Step closing f xs 1 (skipped reason)
 
-skips : (f : Format) (xs : List ℕ) → 0 < length xs → 0 ≡ frame_length (front f xs) → Skips f xs
+skips : (f : Format) (xs : List ℕ) → 0 < length xs → length_found (front f xs) ≡ None → Skips f xs
 skips f [] h z = absurd (omega arith)
 skips f (x ∷ xs) h z = go (front f (x ∷ xs)) refl z
   where
-    go : (o : Found) → front f (x ∷ xs) ≡ o → 0 ≡ frame_length o → Skips f (x ∷ xs)
-    go (Frame n) e p = let i = frame-inside f (x ∷ xs) n e in absurd (omega arith)
+    go : (o : Found) → front f (x ∷ xs) ≡ o → length_found o ≡ None → Skips f (x ∷ xs)
+    go (Frame n) e p = cc p
     go Start e p = record { reason = RanOut; step = close-step f x xs e }
     go (Neither r) e p = record { reason = r; step = skip_step closing f (x ∷ xs) r e }
 
@@ -69,22 +78,22 @@ same : {a b c d e g : ℕ} → a ≡ b → c ≡ d → e ≡ g
 same p q r = λ i. record { framed = p i; skipped = q i; frames = r i }
 
 module _ (f : Format) (xs out : List ℕ) (w : LineCounts) where
-  pub read-closing-skip : (out' : List ℕ) → 0 < length xs → 0 ≡ frame_length (front f xs) → ReadsClosing f (take (length xs - 1) (drop 1 xs)) out w out'
+  pub read-closing-skip : (out' : List ℕ) → 0 < length xs → length_found (front f xs) ≡ None → ReadsClosing f (take (length xs - 1) (drop 1 xs)) out w out'
       → ReadsClosing f xs out (record { framed = w.framed; skipped = w.skipped + 1; frames = w.frames }) out'
   read-closing-skip out' h z rest =
       let s = skips f xs h z in
-      let g : ReadsClosing f (drop 1 xs) out w out' = rw (tail-part xs 1) at rest in
+      let g : ReadsClosing f (drop 1 xs) out w out' = rw (take_rest xs 1) at rest in
       rw (s.step.reads, g.0) (same (omega arith) (omega arith) (omega arith), g.1)
 
-  pub read-closing-frame : (n : ℕ) (out₁ ys : List ℕ) → length xs ≤ length out → front f xs ≡ Frame n → out₁ ≡ copied (take n xs) out 0
+  pub read-closing-frame : (n : ℕ) (out₁ ys : List ℕ) → length xs ≤ length out → length_found (front f xs) ≡ Some n → out₁ ≡ copied (take n xs) out 0
       → ReadsClosing f (take (length xs - n) (drop n xs)) (take (length out₁ - n) (drop n out₁)) w ys
       → ReadsClosing f xs out (record { framed = w.framed + n; skipped = w.skipped; frames = w.frames + 1 })
       (take n out₁ ++ (ys ++ drop (length out₁ - n) (drop n out₁)))
   read-closing-frame n out₁ ys h e copies rest =
-      let s = frame_step closing f xs n e in
+      let s = frame_step closing f xs n (frame-there f xs e) in
       let l : length (take n xs) ≡ n = length-take-le n xs s.inside in
       let p : out₁ ≡ take n xs ++ drop (length (take n xs)) out = copies ∙ start-copied (take n xs) out (omega (arith, l, s.inside)) in
-      let g : ReadsClosing f (drop n xs) (take (length out₁ - n) (drop n out₁)) w ys = rw (tail-part xs n) at rest in (
+      let g : ReadsClosing f (drop n xs) (take (length out₁ - n) (drop n out₁)) w ys = rw (take_rest xs n) at rest in (
         rw (s.reads, g.0, l) (same (omega arith) (omega arith) (omega arith)),
         rw s.reads (laid_on (take n xs) (joined (read closing f (drop n xs)).events) out out₁ ys n l p g.1),
       )

@@ -7,12 +7,12 @@ use native.Mathlib.Omega.{arith}
 use lib.ListN.{length, take, drop, replicate, length-drop, drop_of_length-le}
 use lib.Seq.{length-take-le, drop-drop, take-add}
 use Rattle.buffer.specs.Buffer.{put, copied}
-use Rattle.buffer.proofs.BufferLaws.{length-put, put-copied}
+use Rattle.buffer.proofs.BufferLaws.{put-copied}
 use Rattle.framing.specs.declared.Reason.TheVariants.{StartByte}
 use Rattle.framing.specs.declared.Scanned.TheVariants.{Partial}
 use Rattle.framing.specs.declared.Found.{Found}
 use Rattle.framing.specs.declared.Found.TheVariants.{Frame, Start, Neither}
-use Rattle.framing.specs.Format.{Format}
+use Rattle.framing.specs.declared.Format.{Format}
 use Rattle.framing.specs.Shape.{scan}
 use Rattle.framing.specs.Frame.{front}
 use Rattle.framing.specs.FindStart.{find_start}
@@ -21,9 +21,11 @@ use Rattle.framing.proofs.ReadingLaws.{read-nil, total-append, joined-append, le
 use Rattle.framing.proofs.FindStartLaws.{find-start-most, find-start-reads, joined-skips, framed-skips, frames-skips, skipped-skips}
 use Rattle.framing.specs.declared.frame_run.Run.{Run}
 use Rattle.framing.specs.FrameRun.{run_by, frame_run}
-use Rattle.framing.proofs.FrameRunLaws.{one_of, run-one}
+use Rattle.framing.proofs.FrameRunLaws.{tail_within, one_of, run-one}
 use Rattle.reader.specs.declared.lines.LineCounts.{LineCounts}
 use Rattle.reader.specs.Private.{line_counts_of}
+use Rattle.reader.proofs.HeldLaws.{mid-part}
+use Rattle.std.proofs.lemmas.List.{take_rest}
 use Rattle.reader.proofs.RefusalLaws.{start_of}
 use Rattle.reader.proofs.StepLaws.{Step, frame_step, skip_step, start-stops}
 
@@ -149,9 +151,6 @@ module _ (f : Format) (line out₀ out : List ℕ) (at handed frames : ℕ) (w :
   pub read-line-few : frames ≤ at
   read-line-few = omega (arith, w.number, w.begins.few, w.begins.width)
 
-  pub out-length : length line ≤ length out₀ → length out ≡ length out₀
-  out-length h = ap length w.laid ∙ length-put (joined w.events) out₀ (omega (arith, laid-length, handed-most, w.begins.inside))
-
   -- more events behind
   read-line-on : (n b k : ℕ) (es : List Event) (out' : List ℕ) → Begins f (drop at line) n es → total framed_bytes es ≡ b → total one_frame es ≡ k
       → out' ≡ put (joined w.events ++ joined es) out₀ → ReadSoFar f line out₀ out' (at + n) (handed + b) (frames + k)
@@ -207,6 +206,61 @@ module _ (f : Format) (line out₀ out : List ℕ) (at handed frames : ℕ) (w :
       w.begins.reads ∙ rw (start-stops f (drop at line) (stop-start (front f (drop at line)) s), append-nil w.events) in
       let k : at - handed ≡ total skipped_bytes w.events = omega (arith, w.begins.width, w.bytes) in
       rw (g) (rw (k, w.bytes, w.number), w.laid)
+
+-- ---- a turn of the loop over the first `end` bytes of a line: the run r stands at place at of them, and is copied
+
+module _ (line : List ℕ) (end : ℕ) {f : Format} {out₀ out : List ℕ} {at handed frames : ℕ} {r : Run} (q : (end ≤ length line) × (end ≤ length out₀))
+    (w : ReadSoFar f (take end line) out₀ out at handed frames)
+    (e : r ≡ frame_run f (length line + 1) (take (length (take end line) - at) (take (length line - at) (drop at line)))) where
+  part-length : length (take end line) ≡ end
+  part-length = length-take-le end line q.0
+
+  run-here : Runs f (drop at (take end line)) (length line + 1) r
+  run-here =
+      subst (Runs f (drop at (take end line)) (length line + 1)) (sym (e ∙ ap (frame_run f (length line + 1)) (rw part-length (tail_within line at end))))
+      (runs f (length line + 1) (drop at (take end line)))
+
+  pub turn-ends : at + r.bytes ≤ end
+  turn-ends = omega (arith, run_ends f (take end line) out₀ out at handed frames w (length line + 1) r run-here, part-length)
+
+  stops-here : Stops r.waits (front f (drop (at + r.bytes) (take end line)))
+  stops-here =
+      rw (← drop-drop r.bytes at (take end line))
+      (run-here.stops (omega (arith, run-few f (drop at (take end line)) (length line + 1) r run-here, part-length, q.0, length-drop at (take end line))))
+
+  module _ {out' : List ℕ} (m : out' ≡ copied (take (at + r.bytes - at) (drop at (take end line))) out handed) where
+    behind-run : ReadSoFar f (take end line) out₀ out' (at + r.bytes) (handed + r.bytes) (frames + r.frames)
+    behind-run =
+        read-line-run f (take end line) out₀ out at handed frames w (length line + 1) r (take (at + r.bytes - at) (drop at (take end line))) out'
+        (omega (arith, part-length, q.1)) run-here (mid-part (take end line) at r.bytes) m
+
+    pub turn-few : frames + r.frames ≤ end
+    turn-few =
+        omega (arith, read-line-few f (take end line) out₀ out' (at + r.bytes) (handed + r.bytes) (frames + r.frames) behind-run, turn-ends)
+
+    -- where it waits, the reading stops
+    pub turn-stops : r.waits ≡ true
+        → (record { framed = handed + r.bytes; skipped = at + r.bytes - (handed + r.bytes); frames = frames + r.frames } ≡ line_counts_of (read ongoing f (take end line)))
+        × (out' ≡ put (joined (read ongoing f (take end line)).events) out₀)
+    turn-stops h = read-line-end f (take end line) out₀ out' (at + r.bytes) (handed + r.bytes) (frames + r.frames) behind-run (rw h at stops-here)
+
+    -- where it does not, the byte behind it is skipped, and those that begin no shape
+    behind-byte : r.waits ≡ false → ReadSoFar f (take end line) out₀ out' (at + r.bytes + 1) (handed + r.bytes) (frames + r.frames)
+    behind-byte h = read-line-skip f (take end line) out₀ out' (at + r.bytes) (handed + r.bytes) (frames + r.frames) behind-run (rw h at stops-here)
+
+    pub turn-skips : r.waits ≡ false → at + r.bytes + 1 ≤ end
+    turn-skips h = omega (arith, (behind-byte h).begins.inside, part-length)
+
+    pub turn-goes-on : {n : ℕ} → r.waits ≡ false
+        → n ≡ find_start f (take (length (take end line) - (at + r.bytes + 1)) (drop (at + r.bytes + 1) (take end line)))
+        → ReadSoFar f (take end line) out₀ out' (at + r.bytes + 1 + n) (handed + r.bytes) (frames + r.frames)
+    turn-goes-on {n} h g =
+        read-line-noise f (take end line) out₀ out' (at + r.bytes + 1) (handed + r.bytes) (frames + r.frames) (behind-byte h) n
+        (g ∙ ap (find_start f) (take_rest (take end line) (at + r.bytes + 1)))
+
+    pub turn-inside : {n : ℕ} → r.waits ≡ false
+        → n ≡ find_start f (take (length (take end line) - (at + r.bytes + 1)) (drop (at + r.bytes + 1) (take end line))) → at + r.bytes + 1 + n ≤ end
+    turn-inside h g = omega (arith, (turn-goes-on h g).begins.inside, part-length)
 
 -- ---- lines that need no reading
 

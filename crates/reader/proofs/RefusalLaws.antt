@@ -1,12 +1,13 @@
 -- What the tests of a call come to. Assumes nothing.
 use Prim.Native.Nat.{ℕ, ◌+◌, ◌-◌, ◌≤◌, ◌<◌}
-use mathlib.Core.Path.{◌≡◌, refl, sym}
+use mathlib.Core.Path.{◌≡◌, refl, sym, ap}
+use Rattle.std.proofs.Common.{Option}
 use mathlib.Core.Bool.{Bool, true, false, cond}
 use mathlib.Core.List.{List}
 use native.Mathlib.Omega.{arith}
-use lib.Dec.{ltb}
 use lib.ListN.{length, take}
 use native.Mathlib.Decide.{dec_le}
+use lib.Dec.{ltb}
 use borrow.Author.Tests.{lt-ltb, le-ltb, ltb-true, ltb-false}
 use Rattle.framing.specs.declared.Reason.TheVariants.{Checksum}
 use Rattle.framing.specs.declared.Scanned.{Scanned}
@@ -14,7 +15,10 @@ use Rattle.framing.specs.declared.Scanned.TheVariants.{Whole, Partial, Broken}
 use Rattle.framing.specs.declared.Found.{Found}
 use Rattle.framing.specs.declared.Found.TheVariants.{Frame, Start, Neither}
 use Rattle.framing.specs.declared.Layout.{Layout}
-use Rattle.framing.specs.Format.{Format, mgl, format_of, layout_of, longest, pending_bound, good}
+use Rattle.framing.specs.declared.Format.{Format}
+use Rattle.framing.specs.declared.Format.TheVariants.{Mgl}
+use Rattle.framing.specs.Format.{format_of, layout_of, longest, pending_bound, good}
+use Rattle.framing.specs.Rules.{numbers_of}
 use Rattle.framing.specs.Shape.{scan}
 use Rattle.framing.specs.Frame.{front_of, front}
 use Rattle.framing.proofs.FormatLaws.{lawful}
@@ -32,20 +36,17 @@ by_difference l s n h = go (ltb (l - s) n) (ltb-true (l - s) n) (ltb-false (l - 
     go true p q = sym (lt-ltb l (s + n) (let g = p refl in omega arith))
     go false p q = sym (le-ltb l (s + n) (let g = q refl in omega arith))
 
-pub passed : (l s n : ℕ) → l < s → ltb l (s + n) ≡ true
-passed l s n h = lt-ltb l (s + n) (omega arith)
-
 -- the bound from the numbers that code has of a format
-pub bound-is : (f : Format) {l : Layout} → l ≡ layout_of f → l.longest - 1 ≡ pending_bound f
+pub bound-is : (f : Format) (o : Option Layout) → layout_of f ≡ o → (numbers_of o).longest - 1 ≡ pending_bound f
 unfolding layout_of pending_bound
-bound-is f e = rw e
+bound-is f o e = ap (λ (l : Option Layout). (numbers_of l).longest - 1) (sym e)
 
 -- every bound fits the held bytes, and that of MGL fills them
 pub bound-most : (f : Format) → pending_bound f ≤ held_length
 unfolding longest pending_bound
 bound-most f = omega (arith, (lawful f).most)
 
-pub bound-held : pending_bound mgl ≡ held_length
+pub bound-held : pending_bound Mgl ≡ held_length
 unfolding pending_bound
 bound-held = refl
 

@@ -8,7 +8,7 @@ use lib.Seq.{length-take-le, drop-drop}
 use Rattle.framing.specs.declared.Reason.{Reason}
 use Rattle.framing.specs.declared.Reason.TheVariants.{RanOut}
 use Rattle.framing.specs.declared.Found.TheVariants.{Frame, Start, Neither}
-use Rattle.framing.specs.Format.{Format}
+use Rattle.framing.specs.declared.Format.{Format}
 use Rattle.framing.specs.Shape.{scan_from, scan}
 use Rattle.framing.specs.Frame.{front}
 use Rattle.framing.specs.Reading.{Mode, ongoing, closing, Event, framed, skipped, stop, ◌then◌, read, one_frame, framed_bytes, skipped_bytes, frame_count, framed_count, skipped_count}

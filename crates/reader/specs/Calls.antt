@@ -1,10 +1,11 @@
 -- What a piece and a close give (docs/FORMATS.md, "Readers").
-use Rattle.std.specs.Prelude.{ℕ, ◌+◌, ◌≡◌, Bool, true, false, cond, List, [], ◌++◌, eqb, length}
+use Rattle.std.specs.Prelude.{ℕ, ◌+◌, ◌≡◌, Bool, true, false, cond, List, [], ◌++◌, Result, Ok, Err, eqb, length}
+use Rattle.answer.specs.declared.Refusal.{Refusal}
+use Rattle.answer.specs.Answer.{refusal_number}
 use Rattle.buffer.specs.Buffer.{put}
 use Rattle.framing.specs.Format.{format_of}
 use Rattle.framing.specs.Reading.{Mode, ongoing, closing, Reading, read, joined, frame_count, framed_count, skipped_count, pending_count}
 use Rattle.reader.specs.declared.Reader.{Reader as State}
-use Rattle.reader.specs.declared.Outcome.{Outcome}
 use Rattle.reader.specs.State.{pending_bytes, held_bytes}
 use Rattle.reader.specs.Refusal.{refusal}
 
@@ -25,6 +26,12 @@ out_of (a_close out) = out
 abbrev pub closes : Call → Bool
 closes (a_piece bs out) = false
 closes (a_close out) = true
+
+-- What a call answers: 0 or the number of the refusal, how many frames it handed out, and the reader after it.
+pub record Outcome : Type 0 where
+  pub answer : ℕ
+  pub frames : ℕ
+  pub reader : State
 
 -- A call as it returns: what it answers, and the output.
 pub record Returned : Type 0 where
@@ -65,6 +72,11 @@ refused_of a r = record { answer = a; frames = 0; reader = r }
 
 abbrev pub refused_call : ℕ → State → List ℕ → Returned
 refused_call a r out = returned (refused_of a r) out
+
+-- what a call answers that returned this and left this reader: a refusal hands out no frames
+abbrev pub outcome_of : Result ℕ Refusal → State → Outcome
+outcome_of (Ok frames) r = record { answer = 0; frames = frames; reader = r }
+outcome_of (Err e) r = refused_of (refusal_number e) r
 
 -- What a call on the reader r gives.
 unfoldable pub serve : State → Call → Returned

@@ -1,14 +1,17 @@
 -- What private functions ask and promise. Nothing public rests on these definitions.
-use Rattle.std.specs.Prelude.{ℕ, ◌+◌, ◌-◌, ◌≤◌, ◌≡◌, Bool, true, cond, not, ◌&&◌, ◌||◌, List, ◌++◌, ltb, length, take, drop}
+use Rattle.std.specs.Prelude.{ℕ, ◌+◌, ◌-◌, ◌≤◌, ◌≡◌, Bool, true, false, cond, not, ◌&&◌, ◌||◌, List, ◌++◌, ltb, length, take, drop}
 use Rattle.answer.specs.declared.Refusal.TheVariants.{PieceTooLong, Closed, LineTooLong, PieceOutputTooSmall, BrokenReader}
 use Rattle.answer.specs.Answer.{refusal_number}
-use Rattle.framing.specs.Format.{Format, known, format_of, pending_bound}
+use Rattle.framing.specs.declared.Format.{Format}
+use Rattle.framing.specs.Format.{known, format_of, pending_bound}
 use Rattle.framing.specs.declared.Scanned.TheVariants.{Partial}
 use Rattle.framing.specs.Shape.{scan}
 use Rattle.framing.specs.Reading.{Reading, frame_count, framed_count, skipped_count}
 use Rattle.reader.specs.declared.in_place.Words.{Words}
 use Rattle.reader.specs.declared.in_place.Advance.{Advance}
 use Rattle.reader.specs.declared.lines.LineCounts.{LineCounts}
+use Rattle.reader.specs.declared.refusal.Start.{Start}
+use Rattle.reader.specs.declared.refusal.Start.TheVariants.{Grows, Waits, Broken}
 use Rattle.reader.specs.State.{held_length}
 use Rattle.reader.specs.Refusal.{is_start, longest_piece, most_bytes}
 
@@ -29,6 +32,17 @@ TellsStart f held pending b = pending ≤ length held → b ≡ is_start (scan f
 abbrev pub StartWith : Format → List ℕ → List ℕ → Bool → Type 0
 StartWith f s bytes b = b ≡ true → scan f (s ++ bytes) ≡ Partial
 
+-- what `start_of` says of the pending bytes: whether they wait, and whether they surely do so together with the piece
+abbrev pub waits_of : Start → Bool
+waits_of Grows = true
+waits_of Waits = true
+waits_of Broken = false
+
+abbrev pub grows_of : Start → Bool
+grows_of Grows = true
+grows_of Waits = false
+grows_of Broken = false
+
 -- `broken` and `refusal` of a reader's words and that test
 abbrev pub broken_by : Words → Bool → Bool
 broken_by n waits =
@@ -46,15 +60,10 @@ refusal_by n waits bytes out =
 abbrev pub line_counts_of : Reading → LineCounts
 line_counts_of g = record { framed = framed_count g; skipped = skipped_count g; frames = frame_count g }
 
--- what a refused call answers
-abbrev pub stayed : ℕ → Words → Advance
-stayed a n = record { answer = a; frames = 0; words = n }
-
 -- What an accepted call answers: the counts have grown by w's, and so many bytes are pending.
 abbrev pub advanced_of : Words → Bool → LineCounts → ℕ → Advance
 advanced_of n closed w pending =
     record {
-      answer = 0;
       frames = w.frames;
       words = record {
         format = n.format;

@@ -1,10 +1,10 @@
 -- A reader's state (docs/FORMATS.md, "Readers").
 use Rattle.std.specs.Prelude.{ℕ, ◌+◌, ◌-◌, Bool, true, false, cond, List, [], ◌++◌, length, take, replicate}
 use Rattle.answer.specs.declared.Refusal.TheVariants.{BrokenReader}
-use Rattle.answer.specs.Answer.{refusal_number}
+use Rattle.answer.specs.Answer.{refusal_number, outcome_number}
 use Rattle.framing.specs.Format.{known, format_of}
 use Rattle.reader.specs.declared.Reader.{Reader as State}
-use Rattle.reader.specs.declared.Opening.{Opening}
+use Rattle.reader.specs.declared.Opening.{Opening as Declared}
 
 -- the counts together
 abbrev pub sum : State → ℕ
@@ -25,6 +25,14 @@ held_bytes bs = bs ++ replicate (held_length - length bs) 0
 -- a reader with all counts and held bytes 0
 abbrev pub empty : ℕ → Bool → State
 empty n closed = record { format = n; closed = closed; framed = 0; skipped = 0; pending = 0; held = held_bytes [] }
+
+-- A request for a fresh reader as it returns: its answer, 0 or 11, and the reader.
+pub record Opening : Type 0 where
+  pub answer : ℕ
+  pub reader : State
+
+abbrev pub opening_of : Declared → Opening
+opening_of o = record { answer = outcome_number o.answer; reader = o.reader }
 
 -- A fresh reader of a known format is open. "A refused fresh request hands back a closed reader with format, numbers and held bytes 0."
 unfoldable pub fresh_of : ℕ → Opening

@@ -7,37 +7,32 @@ mod lines;
 mod refusal;
 
 ghost use Rattle.std.specs.Prelude.{◌≡◌};
-ghost use Rattle.reader.specs.State.{empty, fresh_of};
-ghost use Rattle.reader.specs.Calls.{a_piece, a_close, returned, serve};
-ghost use Rattle.reader.specs.InPlace.{state_of, outcome_of};
+ghost use Rattle.reader.specs.State.{empty, fresh_of, opening_of};
+ghost use Rattle.reader.specs.Calls.{a_piece, a_close, returned, outcome_of, serve};
+ghost use Rattle.reader.specs.InPlace.{state_of};
 
 use answer::Refusal;
-use in_place::{Advance, Words};
+use framing::Format;
+use in_place::Words;
 
-// A reader goes into a call by value and comes back by value. Its counts are framed, skipped and pending; the first
-// pending bytes of held are those that wait for more.
-#[derive(Clone, Copy)]
+// A reader. Its counts are framed, skipped and pending; the first pending bytes of held are those that wait for more.
+#[derive(Clone, Copy, Debug, PartialEq, Eq)]
 pub struct Reader {
+    // Kept: a number and no `Format`, because a refused reader keeps its number (`serve`, specs/Calls.antt).
     pub format: u32,
     pub closed: bool,
     pub framed: u32,
     pub skipped: u32,
     pub pending: u32,
+    // Kept: an array with `pending` beside it, because a reader has fixed memory and is laid out so in C (`encode`).
     pub held: [u8; Reader::HELD],
 }
 
-// A request for a fresh reader: 0 or refusal 11, and the reader.
-#[derive(Clone, Copy)]
+// A request for a fresh reader: what it answers, and the reader.
+// Kept: no `Result<Reader, Refusal>`, because a refused request hands back a reader too (`fresh_of`, specs/State.antt).
+#[derive(Clone, Copy, Debug, PartialEq, Eq)]
 pub struct Opening {
-    pub answer: u32,
-    pub reader: Reader,
-}
-
-// What a call answers: 0 or the number of the refusal, how many frames it handed out, and the reader after it.
-#[derive(Clone, Copy)]
-pub struct Outcome {
-    pub answer: u32,
-    pub frames: u32,
+    pub answer: Result<(), Refusal>,
     pub reader: Reader,
 }
 
@@ -49,6 +44,7 @@ impl Reader {
     pub const MOST_BYTES: u64 = 4294967295;
 
     // The longest frame of each format.
+    // Kept: a constant of each format, which document 01 asks for by name (docs/DECISIONS.md).
     pub const MGL_LONGEST: u32 = framing::mgl::LONGEST;
 
     pub const ONFLIGHT_LONGEST: u32 = framing::onflight::LONGEST;
@@ -66,37 +62,49 @@ impl Reader {
     pub const HELD: usize = Reader::MGL_PENDING as usize;
 
     // A fresh reader of a format.
+    // Kept: a number: the reader that it opens has it as its `format`.
     pub fn fresh(format: u32) -> Opening
-        ensures { result ≡ fresh_of format }
+        ensures { opening_of result ≡ fresh_of format }
     {
-        if framing::is_known(format) {
+        if framing::is_known(Format::from(format)) {
             return Opening {
-                answer: 0,
+                answer: Ok(()),
                 reader: empty(format, false),
             };
         }
         Opening {
-            answer: answer::refusal_number(Refusal::BrokenReader),
+            answer: Err(Refusal::BrokenReader),
             reader: empty(0, true),
         }
     }
 
-    // Reads a piece: its frames are copied back to back to the start of `out`. A refusal changes nothing.
-    pub fn piece(self, bytes: &[u8], out: &mut [u8]) -> Outcome
-        ensures { returned result out.new ≡ serve self (a_piece bytes.now out.old) }
+    // Reads a piece: its frames are copied back to back to the start of `out`, and counted. A refusal changes nothing.
+    pub fn piece(&mut self, bytes: &[u8], out: &mut [u8]) -> Result<u32, Refusal>
+        ensures { returned (outcome_of result self.new) out.new ≡ serve self.old (a_piece bytes.now out.old) }
     {
-        let mut held = self.held;
-        let a = in_place::piece(words_of(self), &mut held, bytes, out);
-        joined_outcome(a, held)
+        let a = Words::from(*self).piece(&mut self.held, bytes, out)?;
+        self.put(a.words);
+        Ok(a.frames)
     }
 
     // Ends the line: what the closing reading adds is copied to `out` in the same way. A refusal changes nothing.
-    pub fn close(self, out: &mut [u8]) -> Outcome
-        ensures { returned result out.new ≡ serve self (a_close out.old) }
+    pub fn close(&mut self, out: &mut [u8]) -> Result<u32, Refusal>
+        ensures { returned (outcome_of result self.new) out.new ≡ serve self.old (a_close out.old) }
     {
-        let mut held = self.held;
-        let a = in_place::close(words_of(self), &mut held, out);
-        joined_outcome(a, held)
+        let a = Words::from(*self).close(&mut self.held, out)?;
+        self.put(a.words);
+        Ok(a.frames)
+    }
+
+    // Puts the words of an accepted call beside the bytes that it left held.
+    fn put(&mut self, n: Words)
+        ensures { self.new ≡ state_of n self.old.held }
+    {
+        self.format = n.format;
+        self.closed = n.closed;
+        self.framed = n.framed;
+        self.skipped = n.skipped;
+        self.pending = n.pending;
     }
 }
 
@@ -105,43 +113,11 @@ fn empty(format: u32, closed: bool) -> Reader
     ensures { result ≡ empty format closed }
 {
     Reader {
-        format: format,
-        closed: closed,
+        format,
+        closed,
         framed: 0,
         skipped: 0,
         pending: 0,
         held: [0; Reader::HELD],
-    }
-}
-
-// A reader's words.
-pub fn words_of(r: Reader) -> Words
-    ensures { state_of result r.held ≡ r }
-{
-    Words {
-        format: r.format,
-        closed: r.closed,
-        framed: r.framed,
-        skipped: r.skipped,
-        pending: r.pending,
-    }
-}
-
-// What a call answers, with the bytes that it left held.
-fn joined_outcome(a: Advance, held: [u8; Reader::HELD]) -> Outcome
-    ensures { result ≡ outcome_of a held }
-{
-    let n = a.words;
-    Outcome {
-        answer: a.answer,
-        frames: a.frames,
-        reader: Reader {
-            format: n.format,
-            closed: n.closed,
-            framed: n.framed,
-            skipped: n.skipped,
-            pending: n.pending,
-            held: held,
-        },
     }
 }

@@ -1,21 +1,29 @@
 // The two readings of some bytes. Each copies its frames to the output.
 ghost use Rattle.std.specs.Prelude.{◌≡◌, true, ◌+◌, ◌≤◌, ◌++◌, length, take};
 ghost use Rattle.buffer.specs.Buffer.{put};
-ghost use Rattle.framing.specs.Format.{format_of};
 ghost use Rattle.framing.specs.declared.Scanned.TheVariants.{Partial};
 ghost use Rattle.framing.specs.Shape.{scan};
 ghost use Rattle.framing.specs.Frame.{front};
 ghost use Rattle.framing.specs.Reading.{ongoing, closing, read, joined};
 ghost use Rattle.reader.specs.Private.{Joined, line_counts_of};
 
-use framing::frame_run;
+use framing::{Format, frame_run};
 
 // The counts of a reading: the bytes framed, those skipped, and the frames.
-#[derive(Clone, Copy)]
+#[derive(Clone, Copy, Debug, PartialEq, Eq)]
 pub(crate) struct LineCounts {
     pub(crate) framed: usize,
     pub(crate) skipped: usize,
     pub(crate) frames: usize,
+}
+
+impl LineCounts {
+    // Those of no bytes.
+    const NONE: LineCounts = LineCounts {
+        framed: 0,
+        skipped: 0,
+        frames: 0,
+    };
 }
 
 // Copies the pending bytes and then those of a piece to work, and answers how many they are.
@@ -30,10 +38,11 @@ pub(crate) fn join(start: &[u8], bytes: &[u8], work: &mut [u8]) -> usize
 }
 
 // Copies the frames of the reading of the first `end` bytes of line to `out`, each run whole.
-fn read_line_within(format: u32, line: &[u8], end: usize, out: &mut [u8]) -> LineCounts
+// Kept: a loop with a place that it moves, because each turn goes on where the run and the bytes behind it end.
+fn read_line_within(format: Format, line: &[u8], end: usize, out: &mut [u8]) -> LineCounts
     requires { (end ≤ length line.now) × (end ≤ length out.old) }
-    ensures { (result ≡ line_counts_of (read ongoing (format_of format) (take end line.now)))
-        × (out.new ≡ put (joined (read ongoing (format_of format) (take end line.now)).events) out.old) }
+    ensures { (result ≡ line_counts_of (read ongoing format (take end line.now)))
+        × (out.new ≡ put (joined (read ongoing format (take end line.now)).events) out.old) }
 {
     let part = &line[..end];
     let mut at = 0;
@@ -47,9 +56,9 @@ fn read_line_within(format: u32, line: &[u8], end: usize, out: &mut [u8]) -> Lin
         frames += run.frames;
         if run.waits {
             return LineCounts {
-                framed: framed,
+                framed,
                 skipped: e - framed,
-                frames: frames,
+                frames,
             };
         }
         at = e + 1;
@@ -58,70 +67,64 @@ fn read_line_within(format: u32, line: &[u8], end: usize, out: &mut [u8]) -> Lin
 }
 
 // Copies the frames of the reading of line to `out`.
-pub(crate) fn read_line(format: u32, line: &[u8], out: &mut [u8]) -> LineCounts
+pub(crate) fn read_line(format: Format, line: &[u8], out: &mut [u8]) -> LineCounts
     requires { length line.now ≤ length out.old }
-    ensures { (result ≡ line_counts_of (read ongoing (format_of format) line.now))
-        × (out.new ≡ put (joined (read ongoing (format_of format) line.now).events) out.old) }
+    ensures { (result ≡ line_counts_of (read ongoing format line.now))
+        × (out.new ≡ put (joined (read ongoing format line.now).events) out.old) }
 {
     read_line_within(format, line, line.len(), out)
 }
 
 // Does what `read_line_within` does. Where the first `end` bytes are known to be a proper start there is nothing to read.
 pub(crate) fn read_line_unless_start(
-    format: u32,
+    format: Format,
     grows: bool,
     line: &[u8],
     end: usize,
     out: &mut [u8],
 ) -> LineCounts
-    requires { (end ≤ length line.now) × (end ≤ length out.old) × (grows ≡ true → scan (format_of format) (take end line.now) ≡ Partial) }
-    ensures { (result ≡ line_counts_of (read ongoing (format_of format) (take end line.now)))
-        × (out.new ≡ put (joined (read ongoing (format_of format) (take end line.now)).events) out.old) }
+    requires { (end ≤ length line.now) × (end ≤ length out.old) × (grows ≡ true → scan format (take end line.now) ≡ Partial) }
+    ensures { (result ≡ line_counts_of (read ongoing format (take end line.now)))
+        × (out.new ≡ put (joined (read ongoing format (take end line.now)).events) out.old) }
 {
     if grows {
-        return LineCounts {
-            framed: 0,
-            skipped: 0,
-            frames: 0,
-        };
+        return LineCounts::NONE;
     }
     read_line_within(format, line, end, out)
 }
 
 // Does what `read_line` does. The bytes before the first start byte are only counted.
-pub(crate) fn read_line_after_noise(format: u32, line: &[u8], out: &mut [u8]) -> LineCounts
+pub(crate) fn read_line_after_noise(format: Format, line: &[u8], out: &mut [u8]) -> LineCounts
     requires { length line.now ≤ length out.old }
-    ensures { (result ≡ line_counts_of (read ongoing (format_of format) line.now))
-        × (out.new ≡ put (joined (read ongoing (format_of format) line.now).events) out.old) }
+    ensures { (result ≡ line_counts_of (read ongoing format line.now))
+        × (out.new ≡ put (joined (read ongoing format line.now).events) out.old) }
 {
     let noise = framing::find_start(format, line);
     if noise == line.len() {
         return LineCounts {
-            framed: 0,
             skipped: noise,
-            frames: 0,
+            ..LineCounts::NONE
         };
     }
     let w = read_line(format, &line[noise..], out);
     LineCounts {
-        framed: w.framed,
         skipped: w.skipped + noise,
-        frames: w.frames,
+        ..w
     }
 }
 
 // Copies the frames of the reading of the pending bytes and then those of a longer piece to `out`. As much of the piece as
 // they can need is joined to the pending bytes in line; the rest of the piece is read in place.
 pub(crate) fn read_line_joined(
-    format: u32,
+    format: Format,
     line: &[u8],
     pending: usize,
     bytes: &[u8],
     out: &mut [u8],
 ) -> LineCounts
-    requires { Joined (format_of format) line.now pending bytes.now out.old }
-    ensures { (result ≡ line_counts_of (read ongoing (format_of format) (take pending line.now ++ bytes.now)))
-        × (out.new ≡ put (joined (read ongoing (format_of format) (take pending line.now ++ bytes.now)).events) out.old) }
+    requires { Joined format line.now pending bytes.now out.old }
+    ensures { (result ≡ line_counts_of (read ongoing format (take pending line.now ++ bytes.now)))
+        × (out.new ≡ put (joined (read ongoing format (take pending line.now ++ bytes.now)).events) out.old) }
 {
     let first = read_line(format, line, out);
     let handed = first.framed;
@@ -135,32 +138,26 @@ pub(crate) fn read_line_joined(
 }
 
 // Copies the frames of the closing reading of s to `out`: where no frame begins, the byte is skipped and the rest is read again.
-pub(crate) fn read_closing(format: u32, s: &[u8], out: &mut [u8]) -> LineCounts
+pub(crate) fn read_closing(format: Format, s: &[u8], out: &mut [u8]) -> LineCounts
     requires { length s.now ≤ length out.old }
-    ensures { (result ≡ line_counts_of (read closing (format_of format) s.now))
-        × (out.new ≡ put (joined (read closing (format_of format) s.now).events) out.old) }
+    ensures { (result ≡ line_counts_of (read closing format s.now))
+        × (out.new ≡ put (joined (read closing format s.now).events) out.old) }
 {
-    if s.len() == 0 {
-        return LineCounts {
-            framed: 0,
-            skipped: 0,
-            frames: 0,
-        };
+    if s.is_empty() {
+        return LineCounts::NONE;
     }
-    let n = frame_run::frame_length(format, s);
-    if n == 0 {
+    let Some(n) = frame_run::frame_length(format, s) else {
         let w = read_closing(format, &s[1..], out);
         return LineCounts {
-            framed: w.framed,
             skipped: w.skipped + 1,
-            frames: w.frames,
+            ..w
         };
-    }
+    };
     buffer::copy(&s[..n], out, 0);
     let w = read_closing(format, &s[n..], &mut out[n..]);
     LineCounts {
         framed: w.framed + n,
-        skipped: w.skipped,
         frames: w.frames + 1,
+        ..w
     }
 }

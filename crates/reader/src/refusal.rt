@@ -1,143 +1,119 @@
 // The refusals of a piece or a close.
 ghost use Rattle.std.specs.Prelude.{◌≡◌, ◌+◌, ltb, take};
-ghost use Rattle.framing.specs.Format.{format_of, pending_bound};
+ghost use Rattle.answer.specs.Answer.{outcome_number};
+ghost use Rattle.framing.specs.Format.{pending_bound};
 ghost use Rattle.reader.specs.Refusal.{most_bytes};
-ghost use Rattle.reader.specs.Private.{first_of, TellsStart, StartWith, broken_by, refusal_by};
+ghost use Rattle.reader.specs.Private.{TellsStart, StartWith, waits_of, grows_of, broken_by, refusal_by};
 
 use super::Reader;
 use super::in_place::Words;
 use answer::Refusal;
-use framing::{Growth, frame_run};
+use framing::{Format, Growth, frame_run};
 
 // How many bytes can be pending.
-pub(crate) fn pending_bound(format: u32) -> u32
-    ensures { result ≡ pending_bound (format_of format) }
+pub(crate) fn pending_bound(format: Format) -> u32
+    ensures { result ≡ pending_bound format }
 {
-    let l = framing::layout_of(format);
-    if l.longest == 0 {
-        return 0;
+    match framing::layout_of(format) {
+        Some(layout) => layout.longest.saturating_sub(1),
+        None => 0,
     }
-    l.longest - 1
 }
 
 // Whether what is pending is nothing or a proper start of a shape.
-pub(crate) fn waits(format: u32, held: &[u8], pending: usize) -> bool
-    ensures { TellsStart (format_of format) held.now pending result }
+pub(crate) fn waits(format: Format, held: &[u8], pending: usize) -> bool
+    ensures { TellsStart format held.now pending result }
 {
-    let run = frame_run::frame_run_within(format, held, pending, 1);
-    run.waits
+    frame_run::frame_run_within(format, held, pending, 1).waits
 }
 
-// What is known of the pending bytes: whether they are nothing or a proper start, and whether they surely are one together with a piece.
-#[derive(Clone, Copy)]
-pub(crate) struct Start {
-    pub(crate) waits: bool,
-    pub(crate) grows: bool,
+// What is known of the pending bytes before a piece.
+#[derive(Clone, Copy, Debug, PartialEq, Eq)]
+pub(crate) enum Start {
+    // They are a proper start, and surely one together with the piece.
+    Grows,
+    // They are nothing or a proper start.
+    Waits,
+    // They are neither.
+    Broken,
 }
 
-// The same test, with a shortcut: the pending bytes are scanned only where `growth_of` cannot tell.
-pub(crate) fn start_of(format: u32, held: &[u8], pending: usize, bytes: &[u8]) -> Start
-    ensures { TellsStart (format_of format) held.now pending result.waits
-        × StartWith (format_of format) (take pending held.now) bytes.now result.grows }
+impl Start {
+    pub(crate) fn waits(self) -> bool
+        ensures { result ≡ waits_of self }
+    {
+        !matches!(self, Start::Broken)
+    }
+
+    pub(crate) fn grows(self) -> bool
+        ensures { result ≡ grows_of self }
+    {
+        matches!(self, Start::Grows)
+    }
+}
+
+// The same test as `waits`, with a shortcut: the pending bytes are scanned only where `growth_of` cannot tell.
+pub(crate) fn start_of(format: Format, held: &[u8], pending: usize, bytes: &[u8]) -> Start
+    ensures { TellsStart format held.now pending (waits_of result)
+        × StartWith format (take pending held.now) bytes.now (grows_of result) }
 {
     if pending == 0 {
-        return Start {
-            waits: true,
-            grows: false,
-        };
+        return Start::Waits;
     }
     match framing::growth_of(format, held, pending, bytes) {
-        Growth::Grows => Start {
-            waits: true,
-            grows: true,
-        },
-        Growth::Waits => Start {
-            waits: true,
-            grows: false,
-        },
-        Growth::Unsaid => Start {
-            waits: waits(format, held, pending),
-            grows: false,
-        },
+        Growth::Grows => Start::Grows,
+        Growth::Waits => Start::Waits,
+        Growth::Unsaid => {
+            if waits(format, held, pending) {
+                Start::Waits
+            } else {
+                Start::Broken
+            }
+        }
     }
 }
 
-// Whether the counts and more bytes are over the most that a reader counts.
-fn is_over(n: Words, more: usize) -> bool
-    ensures { result ≡ ltb most_bytes (n.framed + n.skipped + n.pending + more) }
-{
-    let sum = n.framed as u64 + n.skipped as u64 + n.pending as u64;
-    if Reader::MOST_BYTES < sum {
-        return true;
+impl Words {
+    // Whether the counts and more bytes are over the most that a reader counts.
+    fn is_over(self, more: usize) -> bool
+        ensures { result ≡ ltb most_bytes (self.framed + self.skipped + self.pending + more) }
+    {
+        let sum = u64::from(self.framed) + u64::from(self.skipped) + u64::from(self.pending);
+        Reader::MOST_BYTES < sum.saturating_add(more as u64)
     }
-    Reader::MOST_BYTES - sum < more as u64
-}
 
-// Whether `out` is smaller than the pending bytes and so many more.
-fn is_small(out: usize, pending: usize, more: usize) -> bool
-    ensures { result ≡ ltb out (pending + more) }
-{
-    if out < pending {
-        return true;
+    // Whether these are no state of a reader (refusal 11).
+    fn is_broken(self, waits: bool) -> bool
+        ensures { result ≡ broken_by self waits }
+    {
+        let format = Format::from(self.format);
+        !framing::is_known(format)
+            || pending_bound(format) < self.pending
+            || !waits
+            || self.closed && 0 < self.pending
+            || self.is_over(0)
     }
-    out - pending < more
-}
 
-// Whether these are no state of a reader (refusal 11).
-fn is_broken(n: Words, waits: bool) -> bool
-    ensures { result ≡ broken_by n waits }
-{
-    if !framing::is_known(n.format) {
-        return true;
+    // The first refusal of a call with so many bytes and an output of `out` bytes, in the order 11, 2, 1, 3, 4. `waits` is the test of
+    // the pending bytes; it is not made here, because a slice among the parameters costs up to 7 ns a call.
+    pub(crate) fn judge(self, waits: bool, bytes: usize, out: usize) -> Result<(), Refusal>
+        ensures { outcome_number result ≡ refusal_by self waits bytes out }
+    {
+        if self.is_broken(waits) {
+            return Err(Refusal::BrokenReader);
+        }
+        if self.closed {
+            return Err(Refusal::Closed);
+        }
+        if Reader::LONGEST_PIECE < bytes {
+            return Err(Refusal::PieceTooLong);
+        }
+        if self.is_over(bytes) {
+            return Err(Refusal::LineTooLong);
+        }
+        if !buffer::fits(bytes, out, self.pending as usize) {
+            return Err(Refusal::PieceOutputTooSmall);
+        }
+        Ok(())
     }
-    if pending_bound(n.format) < n.pending {
-        return true;
-    }
-    if !waits {
-        return true;
-    }
-    let over = is_over(n, 0);
-    let closed = n.closed;
-    if !closed {
-        return over;
-    }
-    if 0 < n.pending {
-        return true;
-    }
-    over
-}
-
-// The first refusal, in the order 11, 2, 1, 3, 4.
-fn first_refusal(unsound: bool, closed: bool, long: bool, over: bool, small: bool) -> u32
-    ensures { result ≡ first_of unsound closed long over small }
-{
-    if unsound {
-        return answer::refusal_number(Refusal::BrokenReader);
-    }
-    if closed {
-        return answer::refusal_number(Refusal::Closed);
-    }
-    if long {
-        return answer::refusal_number(Refusal::PieceTooLong);
-    }
-    if over {
-        return answer::refusal_number(Refusal::LineTooLong);
-    }
-    if small {
-        return answer::refusal_number(Refusal::PieceOutputTooSmall);
-    }
-    0
-}
-
-// The number of the refusal of a call with so many bytes and an output of `out` bytes, or 0. `waits` is the test of the pending
-// bytes; it is not made here, because a slice among the parameters costs up to 7 ns a call.
-pub(crate) fn refusal(n: Words, waits: bool, bytes: usize, out: usize) -> u32
-    ensures { result ≡ refusal_by n waits bytes out }
-{
-    let unsound = is_broken(n, waits);
-    let closed = n.closed;
-    let long = Reader::LONGEST_PIECE < bytes;
-    let over = is_over(n, bytes);
-    let small = is_small(out, n.pending as usize, bytes);
-    first_refusal(unsound, closed, long, over, small)
 }

@@ -8,7 +8,8 @@ use lib.Dec.{eqb}
 use lib.ListN.{length, drop, length-append, length-drop, drop_of_length-le}
 use lib.Seq.{take_all}
 use Rattle.numbers.specs.Low.{low, low_bytes}
-use Rattle.numbers.proofs.LowBytes.{low-low_bytes}
+use Rattle.std.specs.Int.{w32, to_le_bytes, from_bool}
+use Rattle.numbers.proofs.LowBytes.{low-low_bytes, to_le_bytes-low}
 use Rattle.buffer.specs.Buffer.{put, copied}
 use Rattle.buffer.proofs.BufferLaws.{copied_behind, start-copied, put-copied}
 use Rattle.reader.specs.declared.Reader.{Reader as State}
@@ -20,6 +21,14 @@ use Rattle.reader_bytes.specs.Private.{word_bytes}
 
 -- ---- what the code reads and writes
 
+-- the four bytes that the code has of a number, and of the flag for open and closed
+pub bytes-of : (n : ℕ) {bs : List ℕ} → bs ≡ to_le_bytes w32 n → bs ≡ low_bytes 4 n
+bytes-of n e = e ∙ to_le_bytes-low w32 n
+
+pub flag-bytes : (b : Bool) {k : ℕ} {bs : List ℕ} → k ≡ from_bool b → bs ≡ to_le_bytes w32 k → bs ≡ low_bytes 4 (closed_word b)
+flag-bytes true {k} h e = bytes-of k e ∙ ap (low_bytes 4) h
+flag-bytes false {k} h e = bytes-of k e ∙ ap (low_bytes 4) h
+
 -- five copies, one behind the other
 pub words_copied : (n : Words) (s : List ℕ) → length s ≡ reader_length
     → copied (low_bytes 4 n.pending)
@@ -27,7 +36,7 @@ pub words_copied : (n : Words) (s : List ℕ) → length s ≡ reader_length
     (copied (low_bytes 4 n.framed)
     (copied (low_bytes 4 (closed_word n.closed)) (copied (low_bytes 4 n.format) s 0) 4) 8) 12) 16
     ≡ word_bytes n ++ drop held_at s
-unfolding word_bytes low_bytes
+unfolding word_bytes encode low_bytes
 words_copied n s l =
     let a₁ = low_bytes 4 n.format in
     let a₂ = a₁ ++ low_bytes 4 (closed_word n.closed) in
@@ -42,12 +51,12 @@ words_copied n s l =
     (start-copied (word_bytes n) s (omega arith))
 
 pub length-words : (n : Words) → length (word_bytes n) ≡ held_at
-unfolding word_bytes low_bytes
+unfolding word_bytes encode low_bytes
 length-words n = refl
 
 -- a reader's bytes are its words and its held bytes
 pub encode-words : (n : Words) (held : List ℕ) → word_bytes n ++ held ≡ encode (state_of n held)
-unfolding word_bytes encode
+unfolding word_bytes encode low_bytes
 encode-words n held = refl
 
 -- the held bytes, copied behind the words

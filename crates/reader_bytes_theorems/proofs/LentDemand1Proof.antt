@@ -9,8 +9,7 @@ use lib.Dec.{eqb}
 use lib.ListN.{length}
 use borrow.Author.Tests.{eqb-true, eqb-false}
 use Rattle.framing.specs.Format.{known, format_of}
-use Rattle.reader.specs.declared.Opening.{Opening}
-use Rattle.reader.specs.State.{empty, fresh_of}
+use Rattle.reader.specs.State.{empty, Opening, fresh_of}
 use Rattle.reader.specs.Refusal.{refusal}
 use Rattle.reader.specs.Calls.{Call, bytes_of, out_of, Returned, serve}
 use Rattle.reader_bytes.specs.Bytes.{reader_length, encode, decode}

@@ -7,10 +7,10 @@ use mathlib.Core.List.{List, [], ◌∷◌, map}
 use native.Mathlib.Omega.{arith}
 use lib.Dec.{T}
 use lib.ListN.{length, replicate, length-append, length-replicate}
-use Rattle.framing.specs.Format.{Format, known, format_of}
+use Rattle.framing.specs.declared.Format.{Format}
+use Rattle.framing.specs.Format.{known, format_of}
 use Rattle.reader.specs.declared.Reader.{Reader as State}
-use Rattle.reader.specs.declared.Opening.{Opening}
-use Rattle.reader.specs.State.{held_length, fresh_of}
+use Rattle.reader.specs.State.{held_length, Opening, fresh_of}
 use Rattle.reader.specs.Calls.{Call}
 use Rattle.reader.proofs.RefusalLaws.{bound-most}
 use Rattle.reader_theorems.specs.Machine.{Machine, start, next_machine}

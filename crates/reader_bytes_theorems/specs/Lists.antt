@@ -1,7 +1,8 @@
 -- A list of requests on one reader's bytes, each on the bytes as the request before left them. The contracts of
 -- `capture_fresh`, `capture_piece` and `capture_close` promise `fresh_lent` and `serve_lent`.
 use Rattle.std.specs.Prelude.{ℕ, Bool, false, cond, not, ◌&&◌, ◌||◌, List, [], ◌∷◌, ◌++◌, eqb, length}
-use Rattle.framing.specs.Format.{Format, known, format_of}
+use Rattle.framing.specs.declared.Format.{Format}
+use Rattle.framing.specs.Format.{known, format_of}
 use Rattle.reader.specs.Calls.{Call}
 use Rattle.reader_theorems.specs.Machine.{Machine, next_machine, handed}
 use Rattle.reader_bytes.specs.Bytes.{reader_length}

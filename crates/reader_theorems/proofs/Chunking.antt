@@ -5,7 +5,8 @@ use mathlib.Core.Path.{◌≡◌, sym, ap, ◌∙◌}
 use mathlib.Core.Bool.{false}
 use mathlib.Core.List.{List, [], ◌∷◌, ◌++◌, append_assoc, append-nil}
 use lib.Dec.{T}
-use Rattle.framing.specs.Format.{Format, known, format_of}
+use Rattle.framing.specs.declared.Format.{Format}
+use Rattle.framing.specs.Format.{known, format_of}
 use Rattle.reader.specs.Calls.{Call, a_piece, a_close}
 use Rattle.reader_theorems.specs.Machine.{Machine, machine_answers, final_machine}
 use Rattle.reader_theorems.specs.Demand3.{machine_after}

@@ -9,7 +9,8 @@ use lib.Dec.{T, ltb, eqb}
 use lib.ListN.{length, drop, replicate, length-append}
 use lib.Seq.{take-append_seam, take_at}
 use borrow.Author.Tests.{le-ltb, ltb-false, eqb-true}
-use Rattle.framing.specs.Format.{Format, known, format_of, pending_bound}
+use Rattle.framing.specs.declared.Format.{Format}
+use Rattle.framing.specs.Format.{known, format_of, pending_bound}
 use Rattle.framing.specs.Shape.{scan}
 use Rattle.framing.specs.Reading.{ongoing, Reading, extend, joined, framed_bytes, skipped_bytes, one_frame, frame_count, framed_count, skipped_count, pending_count}
 use Rattle.framing.proofs.TestLaws.{true_of, past}

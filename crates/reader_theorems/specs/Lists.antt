@@ -1,7 +1,7 @@
 -- A list of calls on one reader, each on the reader as the call before returned it. What a call gives is `serve`, which the contracts
 -- of `piece` and `close` promise.
 use Rattle.std.specs.Prelude.{ℕ, ◌+◌, List, [], ◌∷◌, ◌++◌}
-use Rattle.framing.specs.Format.{Format}
+use Rattle.framing.specs.declared.Format.{Format}
 use Rattle.reader.specs.declared.Reader.{Reader as State}
 use Rattle.reader.specs.Calls.{Call, serve}
 use Rattle.reader_theorems.specs.Machine.{Machine, next_machine, handed}

@@ -1,6 +1,6 @@
 -- Document 01's plain machine (docs/FORMATS.md, "The plain machine"). It is fed a list of calls and nothing else.
 use Rattle.std.specs.Prelude.{ℕ, ◌+◌, ◌-◌, Bool, false, cond, List, [], ◌∷◌, ◌++◌, ltb, eqb, length, take}
-use Rattle.framing.specs.Format.{Format}
+use Rattle.framing.specs.declared.Format.{Format}
 use Rattle.framing.specs.Reading.{ongoing, Reading, read, framed_count, pending_count}
 use Rattle.reader.specs.Calls.{Call, bytes_of, out_of, closes, mode_of}
 

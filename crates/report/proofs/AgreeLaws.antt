@@ -2,11 +2,12 @@
 -- Assumes nothing.
 use Prim.Native.Nat.{ℕ, zero, suc, ◌+◌, ◌*◌, ◌≤◌, ◌<◌}
 use mathlib.Core.Path.{◌≡◌, refl, sym, ◌∙◌}
-use mathlib.Core.Bool.{Bool, true, false, ◌&&◌, and-false}
+use mathlib.Core.Bool.{true, false, ◌&&◌, and-false}
 use mathlib.Core.List.{List, ◌++◌}
 use native.Mathlib.Decide.{dec_le, dec_lt}
 use native.Mathlib.Omega.{arith}
 use lib.Dec.{T, leb}
+use Rattle.std.proofs.lemmas.Bool.{and_parts}
 use lib.ListN.{length, take, get_or, length-append, get_or-append}
 use lib.Seq.{length-take-le, take_all, get_or-take}
 use borrow.Author.Tests.{le-leb, lt-leb, leb-true}
@@ -70,24 +71,19 @@ pub record Whole (s : List ℕ) : Type 0 where
   pub uncut : toc_length (entries s) ≤ length s
   pub formats : all_known s (entries s) ≡ true
 
-both : (a b : Bool) → a && b ≡ true → (a ≡ true) × (b ≡ true)
-both true true e = (refl, refl)
-both true false e = let z : ◌≡◌ {A = ℕ} 0 1 = cc in absurd (omega arith)
-both false b e = let z : ◌≡◌ {A = ℕ} 0 1 = cc in absurd (omega arith)
-
 pub whole_of : (s : List ℕ) → is_toc s ≡ true → Whole s
 unfolding is_toc
 whole_of s e =
-    let p = both (leb 1 (entries s) && leb (entries s) most_entries && leb (toc_length (entries s)) (length s)) (all_known s (entries s)) e in
-    let q = both (leb 1 (entries s) && leb (entries s) most_entries) (leb (toc_length (entries s)) (length s)) p.0 in
-    let r = both (leb 1 (entries s)) (leb (entries s) most_entries) q.0 in
+    let p = and_parts (leb 1 (entries s) && leb (entries s) most_entries && leb (toc_length (entries s)) (length s)) (all_known s (entries s)) e in
+    let q = and_parts (leb 1 (entries s) && leb (entries s) most_entries) (leb (toc_length (entries s)) (length s)) p.0 in
+    let r = and_parts (leb 1 (entries s)) (leb (entries s) most_entries) q.0 in
     record { some = leb-true _ _ r.0; few = leb-true _ _ r.1; uncut = leb-true _ _ q.1; formats = p.1 }
 
 -- every format is known
 known_in : (s : List ℕ) (n i : ℕ) → all_known s n ≡ true → i < n → known (format_of (format_at s i)) ≡ true
 unfolding all_known
 known_in s zero i e h = absurd (omega arith)
-known_in s (suc n) i e h = let p = both (all_known s n) (known (format_of (format_at s n))) e in go p.1 (dec_lt i n) (λ l. known_in s n i p.0 l)
+known_in s (suc n) i e h = let p = and_parts (all_known s n) (known (format_of (format_at s n))) e in go p.1 (dec_lt i n) (λ l. known_in s n i p.0 l)
   where
     go : known (format_of (format_at s n)) ≡ true → Dec (i < n) → (i < n → known (format_of (format_at s i)) ≡ true) → known (format_of (format_at s i)) ≡ true
     go q (yes l) f = f l
@@ -128,8 +124,7 @@ just-whole d x o e f = go (dec_le (toc_length (entries (d ++ x))) (length d))
     go (yes h) =
         let q = entries-agree (d ++ x) d (length d) (goes_on d x) (omega arith) in
         let z = toc-agree (d ++ x) d (length d) (goes_on d x) (rw q at h) (omega (arith, length-append d x)) (omega arith) in
-        let w : ◌≡◌ {A = ℕ} 0 1 = cc in
-        absurd (omega arith)
+        cc
     go (no h) = omega (arith, (whole_of (d ++ x) f).uncut, length-append d x)
 
 -- ---- bytes

@@ -36,10 +36,6 @@ pub start-next : (s : List ℕ) (i : ℕ) → entry_start s (suc i) ≡ entry_st
 unfolding entry_start total_length
 start-next s i = omega arith
 
-pub start-most : (s : List ℕ) (i : ℕ) → toc_length (entries s) ≤ entry_start s i
-unfolding entry_start
-start-most s i = omega arith
-
 pub start-later : (s : List ℕ) (i n : ℕ) → i ≤ n → entry_start s i ≤ entry_start s n
 start-later s i zero h = let z : i ≡ 0 = omega arith in rw z (omega arith)
 start-later s i (suc n) h = go (dec_le i n) (λ l. start-later s i n l)

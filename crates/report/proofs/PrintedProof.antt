@@ -7,7 +7,7 @@ use mathlib.Core.Logic.{inl, inr}
 use mathlib.Core.List.{List, [], ◌∷◌, ◌++◌, append_assoc, append-nil, foldl, flatten}
 use native.Mathlib.Decide.{dec_le, dec_lt}
 use native.Mathlib.Omega.{arith}
-use lib.Dec.{eqb}
+use Rattle.std.specs.Prelude.{is_some}
 use lib.ListN.{length, take, drop, length-append, length-take, take-append-drop, length-replicate}
 use lib.Seq.{take-append-le}
 use borrow.Author.Tests.{eq-eqb, ne_eqb, le-leb, leb-true}
@@ -37,7 +37,7 @@ in_body d r g l = go (dec_lt r.entry (entries d))
 
 module _ (d : List ℕ) (b : ℕ) (bs : List ℕ) (r : Report) (p : Bytes (d ++ b ∷ bs)) where
   -- a byte more than the table of contents says
-  exceeds : is_toc d ≡ true → (r.length ≡ 0 → ⊥) → r.left ≡ 0 → entry_start d (entries d) ≤ length d → Over (d ++ b ∷ bs) (overrun r)
+  exceeds : is_toc d ≡ true → is_some r.length ≡ true → r.left ≡ 0 → entry_start d (entries d) ≤ length d → Over (d ++ b ∷ bs) (overrun r)
   unfolding overrun
   exceeds e s l h =
       let w = whole_of d e in
@@ -50,7 +50,7 @@ module _ (d : List ℕ) (b : ℕ) (bs : List ℕ) (r : Report) (p : Bytes (d ++ 
         long = rw (entries-on d (b ∷ bs) w, start-on d (b ∷ bs) w (entries d) (omega arith)) (omega arith);
       }
 
-  read-over : is_toc d ≡ true → (r.length ≡ 0 → ⊥) → r.left ≡ 0 → entry_start d (entries d) ≤ length d → Stage (d ++ b ∷ bs) (take_bytes r (b ∷ bs))
+  read-over : is_toc d ≡ true → is_some r.length ≡ true → r.left ≡ 0 → entry_start d (entries d) ≤ length d → Stage (d ++ b ∷ bs) (take_bytes r (b ∷ bs))
   read-over e s l h = rw (taken-over r b bs s l) (too_long (exceeds e s l h))
 
   -- the bytes of a piece
@@ -134,7 +134,7 @@ module _ (d : List ℕ) (r : Report) (g : Settled d r) where
   cut h =
       let u : length d < entry_start d (entries d) = go (dec_le r.left 0) in
       refused-text d r
-      (rw (counted, ne_eqb r.entry (entries d) (λ z. omega arith)) (and-false (not (eqb r.length 0) && not r.excess)))
+      (rw (counted, ne_eqb r.entry (entries d) (λ z. omega arith)) (and-false (is_some r.length && not r.excess)))
       (rw (g.reading.toc, ne_eqb (entry_start d (entries d)) (length d) (λ z. omega arith)))
     where
       go : Dec (r.left ≤ 0) → length d < entry_start d (entries d)
@@ -146,12 +146,12 @@ module _ (d : List ℕ) (r : Report) (g : Settled d r) where
   ended e =
       let l = left-past d r.entry (omega arith) in
       let b : entry_start d (entries d) ≡ length d = omega (arith, g.reading.left, rw e at g.reading.came, ap (entry_start d) e) in
-      rw (ne_eqb r.length 0 g.reading.some, g.reading.inside, counted, g.reading.sheets, eq-eqb r.entry (entries d) e, g.reading.toc, b, eq-eqb (length d) (length d) refl, e, texts-are d (entries d))
+      rw (g.reading.some, g.reading.inside, counted, g.reading.sheets, eq-eqb r.entry (entries d) e, g.reading.toc, b, eq-eqb (length d) (length d) refl, e, texts-are d (entries d))
 
 pub at-end : (d : List ℕ) (r : Report) → Stage d r → printed r ≡ sheets_of d
 unfolding is_whole_file file_length
 at-end d r (in_toc g) = refused-text d r (rw g.none) (rw (toc-in-first d g.broken))
-at-end d r (too_long g) = refused-text d r (rw (ne_eqb r.length 0 g.some, g.over)) (rw (g.toc, ne_eqb (entry_start d (entries d)) (length d) (λ z. omega (arith, g.long))))
+at-end d r (too_long g) = refused-text d r (rw (g.some, g.over)) (rw (g.toc, ne_eqb (entry_start d (entries d)) (length d) (λ z. omega (arith, g.long))))
 at-end d r (in_bodies g) = go (dec_lt r.entry (entries d))
   where
     go : Dec (r.entry < entries d) → printed r ≡ sheets_of d
@@ -171,13 +171,12 @@ refused-on d x r e (in_toc g) =
     let l : longest_toc ≤ length d = omega (arith, g.count, length-take longest_toc d) in
     refused-text (d ++ x) r (rw g.none) (rw (toc-in-first (d ++ x) (rw (take-append-le longest_toc d x l) g.broken)))
 refused-on d x r e (in_bodies g) =
-    let z : ◌≡◌ {A = Bool} false true = sym g.reading.inside ∙ rw (ne_eqb r.length 0 g.reading.some) at e in
-    let w : ◌≡◌ {A = ℕ} 0 1 = cc in
-    absurd (omega arith)
+    let z : ◌≡◌ {A = Bool} false true = sym g.reading.inside ∙ rw g.reading.some at e in
+    cc
 refused-on d x r e (too_long g) =
     let w = whole_of d g.toc in
     let b : entry_start (d ++ x) (entries (d ++ x)) ≡ entry_start d (entries d) = rw (entries-on d x w) (start-on d x w (entries d) (omega arith)) in
-    refused-text (d ++ x) r (rw (ne_eqb r.length 0 g.some, g.over))
+    refused-text (d ++ x) r (rw (g.some, g.over))
     (rw (toc-on d x g.toc, ne_eqb (entry_start (d ++ x) (entries (d ++ x))) (length (d ++ x)) (λ z. omega (arith, g.long, length-append d x))))
 
 pub printed-sheets : PrintedSheets
@@ -210,7 +209,7 @@ long-stage : (d : List ℕ) (r : Report) → Bytes d → longest_file < length d
 unfolding is_refused
 long-stage d r p l (in_toc g) = rw g.none (le-leb longest_toc r.count (omega (arith, g.count, length-take longest_toc d)))
 long-stage d r p l (in_bodies g) = absurd (omega (arith, not-long d r p g.reading))
-long-stage d r p l (too_long g) = rw (ne_eqb r.length 0 g.some, g.over)
+long-stage d r p l (too_long g) = rw (g.some, g.over)
 
 pub long-refused : LongRefused
 long-refused reads p l = long-stage (flatten reads) (after_reads reads) p l (ends reads p)

@@ -8,8 +8,9 @@ use native.Mathlib.Decide.{dec_le, dec_lt}
 use native.Mathlib.Nat.{add-zero}
 use native.Mathlib.Numerals.{add-one}
 use native.Mathlib.Omega.{arith}
+use Rattle.std.specs.Prelude.{is_some}
 use lib.Dec.{eqb, ltb}
-use lib.ListN.{length, take, drop, set, get_or, length-append, length-drop, length-set, length-replicate, drop_of_length-le}
+use lib.ListN.{length, take, drop, set, get_or, length-append, length-drop, length-set, drop_of_length-le}
 use lib.Seq.{take_all, take-suc-set, take-append-le, drop-append-le, get_or-take, length-take-le}
 use borrow.Author.Tests.{eq-eqb, ne_eqb, lt-ltb, le-ltb}
 use Rattle.reader_theorems.proofs.Chunking.{delivering}
@@ -21,12 +22,13 @@ use Rattle.framing.specs.Meaning.{Bytes}
 use Rattle.report.specs.declared.Report.{Report}
 use Rattle.report.specs.Sheets.{sheet_at}
 use Rattle.report.specs.Step.{empty_output, add_piece, final_sheet, left_at, open_entry, keep_sheet, close_entry, close_steps, close_finished, keep_byte, with_length, first_bytes, open_first, take_toc, take_piece}
+use Rattle.report.proofs.StepLaws.{empty-length}
 use Rattle.report.proofs.AgreeLaws.{Agree, Whole, whole_of, format-known, goes_on, toc-on, just-whole, entries-agree, format-agree, length-fits}
-use Rattle.report.proofs.BodyLaws.{sheets_at, start_first, start-next, start-most, left_in, left-agree, entries-on, format-on, start-on, left-on, sheets-on}
+use Rattle.report.proofs.BodyLaws.{sheets_at, start_first, start-next, left_in, left-agree, entries-on, format-on, start-on, left-on, sheets-on}
 
 -- The table of contents is not whole yet.
 pub record Gathering (d : List ℕ) (r : Report) : Type 0 where
-  pub none : r.length ≡ 0
+  pub none : is_some r.length ≡ false
   pub inside : r.excess ≡ false
   pub size : length r.toc ≡ longest_toc
   pub places : length r.sheets ≡ most_entries
@@ -37,7 +39,7 @@ pub record Gathering (d : List ℕ) (r : Report) : Type 0 where
 -- It is: the sheets of the entries before this one are right, and its tally is that of the bytes that came of its
 -- capture.
 pub record Reading (d : List ℕ) (r : Report) : Type 0 where
-  pub some : r.length ≡ 0 → ⊥
+  pub some : is_some r.length ≡ true
   pub inside : r.excess ≡ false
   pub places : length r.sheets ≡ most_entries
   pub toc : is_toc d ≡ true
@@ -55,7 +57,7 @@ pub record Settled (d : List ℕ) (r : Report) : Type 0 where
 
 -- More bytes came than the table of contents says.
 pub record Over (d : List ℕ) (r : Report) : Type 0 where
-  pub some : r.length ≡ 0 → ⊥
+  pub some : is_some r.length ≡ true
   pub over : r.excess ≡ true
   pub nothing : r.left ≡ 0
   pub toc : is_toc d ≡ true
@@ -67,7 +69,7 @@ pub data Stage (d : List ℕ) (r : Report) : Type 0 where
   too_long : Over d r → Stage d r
 
 large-enough : max_output ≤ length empty_output
-large-enough = omega (arith, length-replicate {A = ℕ} max_output 0)
+large-enough = omega (arith, empty-length)
 
 -- ---- an entry is opened, at the end of what came
 
@@ -176,10 +178,6 @@ module _ (d : List ℕ) (b : ℕ) (r : Report) (g : Gathering d r) (p : Bytes (d
           broken = rw grown-held e;
         }
 
-    length_some : is_toc grown ≡ true → file_length grown ≡ 0 → ⊥
-    unfolding file_length
-    length_some e z = omega (arith, start-most grown (entries grown))
-
     toc-length : is_toc grown ≡ true → length grown ≡ toc_length (entries grown)
     toc-length e = just-whole d (b ∷ []) refl (rw all_held at g.broken) e
 
@@ -193,7 +191,7 @@ module _ (d : List ℕ) (b : ℕ) (r : Report) (g : Gathering d r) (p : Bytes (d
     begins e =
         let s : entry_start grown 0 ≡ length grown = start_first grown ∙ sym (toc-length e) in
         record {
-          some = length_some e;
+          some = refl;
           inside = g.inside;
           places = g.places;
           toc = e;

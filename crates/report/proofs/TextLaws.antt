@@ -1,25 +1,20 @@
--- Laws of the texts of sheets, one after the other, as they are put into a buffer.
+-- Laws of the texts of sheets pushed one after the other.
 -- Assumes nothing.
 use Prim.Native.Nat.{ℕ, ◌+◌, ◌*◌, ◌≤◌, ◌<◌, min}
-use mathlib.Core.Path.{◌≡◌, refl, sym, ◌∙◌}
-use mathlib.Core.Bool.{cond}
+use mathlib.Core.Path.{◌≡◌, refl, ap, ◌∙◌}
 use mathlib.Core.List.{List, [], ◌∷◌, ◌++◌, append_assoc, append-nil, flat_map}
 use native.Mathlib.Decide.{dec_le}
 use native.Mathlib.Nat.{min-eq_left, min-eq_right}
 use native.Mathlib.Numerals.{add-one}
 use native.Mathlib.Omega.{arith}
-use lib.Dec.{leb}
-use lib.ListN.{length, take, get_or, length-append}
+use lib.ListN.{length, take, get_or, length-append, length-take}
 use lib.Seq.{take-suc, take_all}
-use borrow.Author.Tests.{le-leb}
-use Rattle.buffer.specs.Buffer.{copied}
-use Rattle.buffer.proofs.BufferLaws.{copied_behind, first-copied, none-copied}
+use Rattle.buffer.proofs.TextLaws.{both_pushed, whole_pushed}
 use Rattle.benchfile.specs.declared.sheet.Sheet.{Sheet}
 use Rattle.benchfile.specs.Sheet.{sheet_text, longest_sheet}
 use Rattle.benchfile.specs.Toc.{most_entries}
 use Rattle.report.specs.Sheets.{longest_text}
 
--- the texts of some sheets, one after the other
 abbrev pub texts : List Sheet → List ℕ
 texts xs = flat_map sheet_text xs
 
@@ -33,25 +28,23 @@ pub texts-next : (xs : List Sheet) (i : ℕ) (d : Sheet) → i < length xs → t
 unfolding flat_map
 texts-next xs i d h = rw (add-one i, take-suc xs i d h, texts-append (take i xs) (get_or xs i d ∷ []), append-nil (sheet_text (get_or xs i d)))
 
--- The texts of the first i sheets are put at the start of a buffer t, which is u now.
-pub record Laid (xs : List Sheet) (i at : ℕ) (t u : List ℕ) : Type 0 where
-  pub place : at ≡ length (texts (take i xs))
-  pub short : at ≤ longest_sheet * i
-  pub text : u ≡ copied (texts (take i xs)) t 0
+-- u is a new text with the texts of the first i sheets, each of them short
+pub record Laid (xs : List Sheet) (i : ℕ) (u : List ℕ) : Type 0 where
+  pub short : length (texts (take i xs)) ≤ longest_sheet * i
+  pub text : u ≡ take longest_text ([] ++ texts (take i xs))
 
-pub laid_none : (xs : List Sheet) (t : List ℕ) → Laid xs 0 0 t t
+pub laid_none : (xs : List Sheet) {u : List ℕ} → u ≡ [] → Laid xs 0 u
 unfolding flat_map
-laid_none xs t = record { place = refl; short = omega arith; text = sym (none-copied t 0) }
+laid_none xs e = record { short = omega arith; text = e }
 
-pub laid_next : (xs : List Sheet) (i at k : ℕ) (d : Sheet) (t u v : List ℕ) → i < length xs → at + longest_sheet ≤ length t → Laid xs i at t u
-    → (k ≡ at + length (sheet_text (get_or xs i d))) × ((length (sheet_text (get_or xs i d)) ≤ longest_sheet) × (v ≡ copied (sheet_text (get_or xs i d)) u at))
-    → Laid xs (i + 1) k t v
-laid_next xs i at k d t u v h f g p =
+pub laid_next : (xs : List Sheet) (i : ℕ) (d : Sheet) (u : List ℕ) {v : List ℕ} → i < length xs → Laid xs i u
+    → v ≡ take longest_text (u ++ sheet_text (get_or xs i d)) → length (sheet_text (get_or xs i d)) ≤ longest_sheet → Laid xs (i + 1) v
+laid_next xs i d u h g p s =
+    let x = get_or xs i d in
     let n = texts-next xs i d h in
     record {
-      place = rw n (omega (arith, p.0, g.place, length-append (texts (take i xs)) (sheet_text (get_or xs i d))));
-      short = omega (arith, p.0, p.1.0, g.short);
-      text = p.1.1 ∙ rw (g.text, n) (copied_behind (texts (take i xs)) (sheet_text (get_or xs i d)) t 0 at (omega (arith, g.place)) (omega (arith, p.1.0)));
+      short = omega (arith, ap length n, length-append (texts (take i xs)) (sheet_text x), g.short);
+      text = rw n (both_pushed longest_text [] (texts (take i xs)) (sheet_text x) g.text p);
     }
 
 -- as many as there are
@@ -64,16 +57,12 @@ take-most n xs h = go (dec_le n most_entries)
         let l : most_entries ≤ n = omega arith in
         rw (min-eq_right l, take_all most_entries xs (omega arith), take_all n xs (omega arith))
 
-pub laid-all : (xs : List Sheet) (n i at : ℕ) (t u : List ℕ) → length xs ≡ most_entries → longest_text ≤ length t → i ≡ min n most_entries → Laid xs i at t u
-    → (at ≡ length (texts (take n xs))) × ((take at u ≡ texts (take n xs)) × (at ≤ longest_text))
-laid-all xs n i at t u h f e g =
-    let q : take i xs ≡ take n xs = rw e (take-most n xs h) in
-    let p : at ≡ length (texts (take n xs)) = rw q at g.place in
-    (p, (rw (g.text, q, p) (first-copied (texts (take n xs)) t (omega (arith, p, g.short))), omega (arith, g.short)))
-
--- as many bytes as were written
-pub written : (r : ℕ) (x t : List ℕ) → length x ≤ length t → r ≡ cond (leb (length x) (length t)) (length x) 0 → r ≡ length x
-written r x t h e = rw (le-leb (length x) (length t) h) at e
-
-pub at_most : (r : ℕ) (x t : List ℕ) → length x ≤ length t → r ≡ cond (leb (length x) (length t)) (length x) 0 → r ≤ length t
-at_most r x t h e = omega (arith, written r x t h e)
+-- the whole of them
+pub laid-all : (xs ys : List Sheet) (n i k : ℕ) (u : List ℕ) → length xs ≡ most_entries → i ≡ min n most_entries → ys ≡ take i xs → k ≡ length ys → Laid ys k u
+    → (u ≡ texts (take n xs)) × (length u ≤ longest_text)
+laid-all xs ys n i k u h e p l g =
+    let q : take k ys ≡ take n xs = take_all k ys (omega arith) ∙ p ∙ rw e (take-most n xs h) in
+    let c : k ≤ most_entries = omega (arith, ap length p, length-take i xs) in
+    let s : length (texts (take n xs)) ≤ longest_text = omega (arith, ap (λ (x : List Sheet). length (texts x)) q, g.short) in
+    let w = whole_pushed longest_text (texts (take n xs)) refl (rw q at g.text) s in
+    (w, omega (arith, ap length w))

@@ -2,7 +2,7 @@
 -- print is `sheets_of` of the file; and a file that is too long is refused. No contract can say what the program
 -- itself reads and writes. So read `sheets_of` (Sheets.antt), and see that `main` (crates/sheet/src/main.rt) starts with
 -- `Report::fresh`, hands every read to `take`, stops only at the end of the file, where `is_refused` says so, or where
--- `is_too_long` does, which comes to the same (`LongRefused`), and prints what `write` writes. `fresh_report`,
+-- `is_too_long` does, which comes to the same (`LongRefused`), and prints what `text` gives. `fresh_report`,
 -- `take_bytes`, `is_refused` and `printed` are what these four functions promise; how Step.antt defines them does not
 -- matter.
 use Rattle.std.specs.Prelude.{ℕ, ◌+◌, ◌*◌, ◌<◌, ◌≡◌, true, ◌⊎◌, length}

@@ -1,6 +1,6 @@
 -- A bench file read by read: the table of contents as far as it came, the entry that is open, and the sheets of those before
 -- it.
-use Rattle.std.specs.Prelude.{ℕ, zero, suc, ◌+◌, ◌-◌, min, Bool, true, false, cond, not, ◌&&◌, ltb, leb, eqb, length, take, drop, set, replicate}
+use Rattle.std.specs.Prelude.{ℕ, zero, suc, ◌+◌, ◌-◌, min, Option, Some, None, is_some, is_none, Bool, true, false, cond, not, ◌&&◌, ltb, leb, eqb, length, take, drop, set, replicate}
 use mathlib.Core.List.{List, [], ◌∷◌, flat_map}
 use Rattle.reader.specs.Refusal.{longest_piece}
 use Rattle.reader.specs.Calls.{a_piece, a_close}
@@ -36,7 +36,7 @@ no_sheet = record { format = 0; frames = 0; framed = 0; skipped = 0; pending = 0
 unfoldable pub fresh_report : Report
 fresh_report =
     record {
-      length = 0;
+      length = None;
       excess = false;
       count = 0;
       toc = replicate longest_toc 0;
@@ -46,8 +46,9 @@ fresh_report =
       sheets = replicate most_entries no_sheet;
     }
 
--- r with other facts of the file: its length by the table of contents, whether more bytes came, and the table as far as it came
-abbrev pub with_file : Report → ℕ → Bool → ℕ → List ℕ → Report
+-- r with other facts of the file: its length, where the table of contents is whole, whether more bytes came, and the table as far
+-- as it came
+abbrev pub with_file : Report → Option ℕ → Bool → ℕ → List ℕ → Report
 with_file r n excess count toc =
     record {
       length = n;
@@ -113,7 +114,7 @@ keep_byte r b = with_file r r.length r.excess (r.count + 1) (set r.toc r.count b
 
 -- the table of contents is whole, and gives this length to the file
 unfoldable pub with_length : Report → ℕ → Report
-with_length r n = with_file r n r.excess r.count r.toc
+with_length r n = with_file r (Some n) r.excess r.count r.toc
 
 -- where the table of contents is whole, the first entry is opened
 unfoldable pub open_first : Report → Report
@@ -138,7 +139,7 @@ overrun r = with_file r r.length true r.count r.toc
 -- One step at the bytes b ∷ bs: a byte of the table of contents, or a piece of a capture; go takes what is left after it.
 unfoldable pub take_next : Report → ℕ → List ℕ → (Report → List ℕ → Report) → Report
 take_next r b bs go =
-    cond (eqb r.length 0) (go (take_toc r b) bs)
+    cond (is_none r.length) (go (take_toc r b) bs)
     (cond (eqb r.left 0) (overrun r)
     (let n = portion r (length (b ∷ bs)) in
     go (close_finished (take_piece r (take n (b ∷ bs)))) (drop n (b ∷ bs))))
@@ -157,11 +158,11 @@ take_bytes r bs = take_steps (length bs) r bs
 
 -- the file ended where its table of contents says
 abbrev pub is_done : Report → Bool
-is_done r = not (eqb r.length 0) && not r.excess && eqb r.entry (entries r.toc)
+is_done r = is_some r.length && not r.excess && eqb r.entry (entries r.toc)
 
 -- the file is broken, whatever comes: no table of contents in 97 bytes, or bytes behind the last capture
 unfoldable pub is_refused : Report → Bool
-is_refused r = cond (eqb r.length 0) (leb longest_toc r.count) r.excess
+is_refused r = cond (is_none r.length) (leb longest_toc r.count) r.excess
 
 -- what is printed of a file that ends here
 unfoldable pub printed : Report → List ℕ

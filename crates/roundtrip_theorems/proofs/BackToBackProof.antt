@@ -5,7 +5,8 @@ use mathlib.Core.Path.{◌≡◌, refl, ap, ◌∙◌}
 use mathlib.Core.List.{List, [], ◌∷◌, ◌++◌}
 use native.Mathlib.Omega.{arith}
 use lib.ListN.{length}
-use Rattle.framing.specs.Format.{Format, format_of}
+use Rattle.framing.specs.declared.Format.{Format}
+use Rattle.framing.specs.Format.{format_of}
 use Rattle.framing.specs.Reading.{Mode, framed, ◌then◌, read, joined, total, one_frame, framed_bytes, skipped_bytes}
 use Rattle.framing.proofs.ReadingLaws.{read-nil, length-joined}
 use Rattle.framing.proofs.LineLaws.{read-frame}

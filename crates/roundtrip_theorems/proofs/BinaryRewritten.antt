@@ -15,7 +15,8 @@ use Rattle.checksum.specs.Crc.{crc_of}
 use Rattle.checksum.specs.Fletcher.{fletcher_of}
 use Rattle.framing.specs.Rules.{part}
 use Rattle.framing.specs.Mgl.{length_from_byte}
-use Rattle.framing.specs.Format.{mgl, onflight, shortest, good, body_start, body_end}
+use Rattle.framing.specs.declared.Format.TheVariants.{Mgl, Onflight}
+use Rattle.framing.specs.Format.{shortest, good, body_start, body_end}
 use Rattle.framing.specs.Meaning.{Bytes}
 use Rattle.framing.specs.Frame.{IsFrame}
 use Rattle.framing.proofs.ByteLaws.{bytes-at}
@@ -56,7 +57,7 @@ covered-again e s h l =
     cc (q 4 (omega arith), q 5 (omega arith), q 6 (omega arith), q 7 (omega arith))
 
 -- the checksum is read as it is written
-crc-again : (s : List ℕ) → Bytes s → 4 ≤ length s → T (good mgl s) → low_bytes 4 (crc_of (part 4 (length s - 4) s)) ≡ drop (length s - 4) s
+crc-again : (s : List ℕ) → Bytes s → 4 ≤ length s → T (good Mgl s) → low_bytes 4 (crc_of (part 4 (length s - 4) s)) ≡ drop (length s - 4) s
 unfolding good
 crc-again s b l g =
     let e = length s - 4 in
@@ -64,7 +65,7 @@ crc-again s b l g =
     ∙ bytes-of-low 4 s e (omega arith) (λ i h. bytes-at s b (e + i))
     ∙ take_all 4 (drop e s) (rw (length-drop e s) (omega arith))
 
-mgl-again : (s : List ℕ) → Bytes s → 21 ≤ length s → T (good mgl s) → MglShape s → mgl_frame (header_at s) (part 8 (length s - 4) s) ≡ s
+mgl-again : (s : List ℕ) → Bytes s → 21 ≤ length s → T (good Mgl s) → MglShape s → mgl_frame (header_at s) (part 8 (length s - 4) s) ≡ s
 unfolding mgl_frame length_byte
 mgl-again s b l g w =
     let e = length s - 4 in
@@ -75,19 +76,19 @@ mgl-again s b l g w =
     rw (k, x, covered-again e s (omega arith) (omega arith), crc-again s b (omega arith) g, cut 4 e s (omega arith))
     (ap (λ (r : List ℕ). 0x05 ∷ 0x02 ∷ w.len ∷ w.complement ∷ drop 4 r) w.same ∙ sym w.same)
 
-header_is : (s : List ℕ) → is_frame mgl s ≡ true → (header_of s).value ≡ header_at s
+header_is : (s : List ℕ) → is_frame Mgl s ≡ true → (header_of s).value ≡ header_at s
 unfolding header_of
 header_is s t = rw t
 
-pub mgl-laid : (s : List ℕ) → Bytes s → IsFrame mgl s → mgl_frame (header_at s) (body_of mgl s) ≡ s
+pub mgl-laid : (s : List ℕ) → Bytes s → IsFrame Mgl s → mgl_frame (header_at s) (body_of Mgl s) ≡ s
 unfolding body_start body_end shortest
 mgl-laid s b h =
-    let m = (frame-means mgl s).0 h in
-    let t = (frame-test mgl s).1 h in
-    ap (mgl_frame (header_at s)) (sym (body_at mgl s t refl refl)) ∙ mgl-again s b (frame-long mgl s t) m.1 (mgl-head s m.0)
+    let m = (frame-means Mgl s).0 h in
+    let t = (frame-test Mgl s).1 h in
+    ap (mgl_frame (header_at s)) (sym (body_at Mgl s t refl refl)) ∙ mgl-again s b (frame-long Mgl s t) m.1 (mgl-head s m.0)
 
-pub mgl-rewritten : (s : List ℕ) → Bytes s → IsFrame mgl s → mgl_frame (header_of s).value (body_of mgl s) ≡ s
-mgl-rewritten s b h = ap (λ (x : Header). mgl_frame x (body_of mgl s)) (header_is s ((frame-test mgl s).1 h)) ∙ mgl-laid s b h
+pub mgl-rewritten : (s : List ℕ) → Bytes s → IsFrame Mgl s → mgl_frame (header_of s).value (body_of Mgl s) ≡ s
+mgl-rewritten s b h = ap (λ (x : Header). mgl_frame x (body_of Mgl s)) (header_is s ((frame-test Mgl s).1 h)) ∙ mgl-laid s b h
 
 -- ---- OnFlight
 
@@ -104,7 +105,7 @@ last-two s h =
     let z = drop_of_length-le s {i = suc (length s - 1)} (omega arith) in
     cc
 
-fletcher-again : (s : List ℕ) → 2 ≤ length s → T (good onflight s)
+fletcher-again : (s : List ℕ) → 2 ≤ length s → T (good Onflight s)
     → (fletcher_of (take (length s - 2) s)).plain ∷ (fletcher_of (take (length s - 2) s)).weighted ∷ [] ≡ drop (length s - 2) s
 unfolding good
 fletcher-again s h g =
@@ -115,7 +116,7 @@ fletcher-again s h g =
     let q : c.weighted ≡ get_or s (length s - 1) 0 = eqb→eq c.weighted (get_or s (length s - 1) 0) (and_r t u g) in
     cc (last-two s h)
 
-onflight-again : (s : List ℕ) → T (good onflight s) → OnflightShape s → onflight_frame (part 4 (length s - 2) s) ≡ s
+onflight-again : (s : List ℕ) → T (good Onflight s) → OnflightShape s → onflight_frame (part 4 (length s - 2) s) ≡ s
 unfolding onflight_frame
 onflight-again s g w =
     let e = length s - 2 in
@@ -123,9 +124,9 @@ onflight-again s g w =
     let c : onflight_covered (part 4 e s) ≡ take e s = payload-covered (e - 4) s w ∙ ap (λ (k : ℕ). take k s) n in
     rw (c, fletcher-again s (omega (arith, w.long)) g) (take-append-drop e s)
 
-pub onflight-rewritten : (s : List ℕ) → IsFrame onflight s → onflight_frame (body_of onflight s) ≡ s
+pub onflight-rewritten : (s : List ℕ) → IsFrame Onflight s → onflight_frame (body_of Onflight s) ≡ s
 unfolding body_start body_end
 onflight-rewritten s h =
-    let m = (frame-means onflight s).0 h in
-    let t = (frame-test onflight s).1 h in
-    ap onflight_frame (sym (body_at onflight s t refl refl)) ∙ onflight-again s m.1 (onflight-head s m.0)
+    let m = (frame-means Onflight s).0 h in
+    let t = (frame-test Onflight s).1 h in
+    ap onflight_frame (sym (body_at Onflight s t refl refl)) ∙ onflight-again s m.1 (onflight-head s m.0)

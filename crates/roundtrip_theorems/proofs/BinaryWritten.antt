@@ -18,7 +18,9 @@ use Rattle.checksum.specs.Fletcher.{fletcher_of}
 use Rattle.framing.specs.declared.Scanned.TheVariants.{Whole}
 use Rattle.framing.specs.Mgl.{length_from_byte, mgl_next}
 use Rattle.framing.specs.Onflight.{onflight_next}
-use Rattle.framing.specs.Format.{Format, mgl, onflight, next, good}
+use Rattle.framing.specs.declared.Format.{Format}
+use Rattle.framing.specs.declared.Format.TheVariants.{Mgl, Onflight}
+use Rattle.framing.specs.Format.{next, good}
 use Rattle.framing.specs.Shape.{scan_from, scan}
 use Rattle.framing.specs.Meaning.{IsShape, Bytes}
 use Rattle.framing.proofs.ShapeLaws.{CountsFrom, counted}
@@ -51,7 +53,7 @@ module _ (h : Header) (body : List ℕ) where
   unfolding mgl_covered
   covered-length = omega arith
 
-  pub mgl-shape : 9 ≤ length body → length body ≤ 264 → IsShape mgl (mgl_frame h body)
+  pub mgl-shape : 9 ≤ length body → length body ≤ 264 → IsShape Mgl (mgl_frame h body)
   unfolding mgl_frame length_byte scan scan_from next mgl_next
   mgl-shape p q =
       let y = low_bytes 4 (crc_of (mgl_covered h body)) in
@@ -60,9 +62,9 @@ module _ (h : Header) (body : List ℕ) where
       omega (arith, covered-length, length-append (mgl_covered h body) y, length-low_bytes 4 (crc_of (mgl_covered h body)))
       in
       rw (eq-eqb ((length body - 8) % 256 + (255 - (length body - 8) % 256)) 255 (omega arith))
-      (filled mgl mgl-counts _ (mgl_covered h body ++ y) (omega arith) m ∙ ap Whole (omega arith))
+      (filled Mgl mgl-counts _ (mgl_covered h body ++ y) (omega arith) m ∙ ap Whole (omega arith))
 
-  pub mgl-good : Bytes (mgl_covered h body) → T (good mgl (mgl_frame h body))
+  pub mgl-good : Bytes (mgl_covered h body) → T (good Mgl (mgl_frame h body))
   unfolding mgl_frame good
   mgl-good b =
       let n = crc_of (mgl_covered h body) in
@@ -77,14 +79,14 @@ module _ (h : Header) (body : List ℕ) where
 -- ---- OnFlight
 
 module _ (payload : List ℕ) where
-  pub onflight-shape : takes onflight payload ≡ true → IsShape onflight (onflight_frame payload)
+  pub onflight-shape : takes Onflight payload ≡ true → IsShape Onflight (onflight_frame payload)
   unfolding takes onflight_frame onflight_covered scan scan_from next onflight_next
   onflight-shape t =
       let y = (fletcher_of (onflight_covered payload)).plain ∷ (fletcher_of (onflight_covered payload)).weighted ∷ [] in
       let m : 158 ≡ 4 + length (payload ++ y) = omega (arith, length-append payload y, eqb-true (length payload) 152 t) in
-      filled onflight onflight-counts 158 (payload ++ y) (omega arith) m ∙ ap Whole (omega arith)
+      filled Onflight onflight-counts 158 (payload ++ y) (omega arith) m ∙ ap Whole (omega arith)
 
-  pub onflight-good : T (good onflight (onflight_frame payload))
+  pub onflight-good : T (good Onflight (onflight_frame payload))
   unfolding onflight_frame good
   onflight-good =
       let c = onflight_covered payload in

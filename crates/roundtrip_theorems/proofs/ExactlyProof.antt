@@ -7,7 +7,9 @@ use mathlib.Core.List.{List}
 use native.Mathlib.Omega.{arith}
 use lib.ListN.{length, drop}
 use borrow.Author.Tests.{eq-eqb}
-use Rattle.framing.specs.Format.{Format, mgl, onflight, nmea, unknown, shortest, longest, good, body_start, body_end}
+use Rattle.framing.specs.declared.Format.{Format}
+use Rattle.framing.specs.declared.Format.TheVariants.{Mgl, Onflight, Nmea, Unknown}
+use Rattle.framing.specs.Format.{shortest, longest, good, body_start, body_end}
 use Rattle.framing.specs.Meaning.{Bytes}
 use Rattle.framing.specs.Frame.{IsFrame}
 use Rattle.framing.proofs.ByteLaws.{bytes-at, bytes_drop, bytes_take}
@@ -41,44 +43,44 @@ bare-bytes body b = (omega arith, (omega arith, (omega arith, (omega arith, b)))
 
 taken-apart : (f : Format) (s : List ℕ) → Bytes s → IsFrame f s → LaidOut f s
 unfolding shortest longest body_start body_end good
-taken-apart mgl s b h =
-    let t = (frame-test mgl s).1 h in
-    let n = body-length mgl s t in
+taken-apart Mgl s b h =
+    let t = (frame-test Mgl s).1 h in
+    let n = body-length Mgl s t in
     record {
-      content = record { header = header_at s; body = body_of mgl s };
-      bytes = (bytes-at s b 4, (bytes-at s b 5, (bytes-at s b 6, (bytes-at s b 7, body_bytes mgl s b t))));
-      body = (omega (arith, n, frame-long mgl s t), omega (arith, n, frame-short mgl s t));
+      content = record { header = header_at s; body = body_of Mgl s };
+      bytes = (bytes-at s b 4, (bytes-at s b 5, (bytes-at s b 6, (bytes-at s b 7, body_bytes Mgl s b t))));
+      body = (omega (arith, n, frame-long Mgl s t), omega (arith, n, frame-short Mgl s t));
       same = sym (mgl-laid s b h);
     }
-taken-apart onflight s b h =
-    let t = (frame-test onflight s).1 h in
+taken-apart Onflight s b h =
+    let t = (frame-test Onflight s).1 h in
     record {
-      content = bare (body_of onflight s);
-      bytes = bare-bytes (body_of onflight s) (body_bytes onflight s b t);
-      body = omega (arith, body-length onflight s t, onflight-length s t);
+      content = bare (body_of Onflight s);
+      bytes = bare-bytes (body_of Onflight s) (body_bytes Onflight s b t);
+      body = omega (arith, body-length Onflight s t, onflight-length s t);
       same = sym (onflight-rewritten s h);
     }
-taken-apart nmea s b h =
-    let t = (frame-test nmea s).1 h in
-    let n = body-length nmea s t in
+taken-apart Nmea s b h =
+    let t = (frame-test Nmea s).1 h in
+    let n = body-length Nmea s t in
     record {
-      content = bare (body_of nmea s);
-      bytes = bare-bytes (body_of nmea s) (body_bytes nmea s b t);
-      body = (omega (arith, n, frame-long nmea s t), omega (arith, n, frame-short nmea s t), (body-bytes-are (body_of nmea s)).0 (body-permitted s h));
+      content = bare (body_of Nmea s);
+      bytes = bare-bytes (body_of Nmea s) (body_bytes Nmea s b t);
+      body = (omega (arith, n, frame-long Nmea s t), omega (arith, n, frame-short Nmea s t), (body-bytes-are (body_of Nmea s)).0 (body-permitted s h));
       same = sym (nmea-rewritten s h);
     }
-taken-apart unknown s b h = absurd ((frame-means unknown s).0 h).1
+taken-apart Unknown s b h = absurd ((frame-means Unknown s).0 h).1
 
 -- ---- what is laid out is a frame
 
 laid : (f : Format) (c : Content) → IsContent c → IsBody f c.body → IsFrame f (frame_of f c)
 unfolding takes mgl_covered
-laid mgl c b h = (frame-means mgl _).1 (mgl-shape c.header c.body h.0 h.1, mgl-good c.header c.body b)
-laid onflight c b h = (frame-means onflight _).1 (onflight-shape c.body (eq-eqb _ 152 h), onflight-good c.body)
-laid nmea c b h =
+laid Mgl c b h = (frame-means Mgl _).1 (mgl-shape c.header c.body h.0 h.1, mgl-good c.header c.body b)
+laid Onflight c b h = (frame-means Onflight _).1 (onflight-shape c.body (eq-eqb _ 152 h), onflight-good c.body)
+laid Nmea c b h =
     let w : Body c.body = record { some = h.0; most = h.1; permitted = (body-bytes-are c.body).1 h.2 } in
-    (frame-means nmea _).1 (nmea-shape c.body w, nmea-good c.body w)
-laid unknown c b h = absurd h
+    (frame-means Nmea _).1 (nmea-shape c.body w, nmea-good c.body w)
+laid Unknown c b h = absurd h
 
 pub frames-exactly : FramesExactly
 frames-exactly f s b = (

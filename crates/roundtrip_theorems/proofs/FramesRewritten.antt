@@ -4,7 +4,8 @@ use Prim.Native.Nat.{ℕ}
 use mathlib.Core.Path.{◌≡◌, ◌∙◌}
 use mathlib.Core.Bool.{true}
 use mathlib.Core.List.{List}
-use Rattle.framing.specs.Format.{Format, mgl, onflight, nmea, unknown}
+use Rattle.framing.specs.declared.Format.{Format}
+use Rattle.framing.specs.declared.Format.TheVariants.{Mgl, Onflight, Nmea, Unknown}
 use Rattle.framing.specs.Meaning.{Bytes}
 use Rattle.framing.specs.Frame.{IsFrame}
 use Rattle.content.specs.Body.{body_of}
@@ -17,10 +18,10 @@ use Rattle.roundtrip_theorems.proofs.NmeaRewritten.{nmea-rewritten}
 -- the frame of what a frame holds, whatever the output
 pub rewritten : (f : Format) (s : List ℕ) → Bytes s → IsFrame f s → takes f (body_of f s) ≡ true → frame_of f (content_of f s) ≡ s
 unfolding takes
-rewritten mgl s b h t = mgl-rewritten s b h
-rewritten onflight s b h t = onflight-rewritten s h
-rewritten nmea s b h t = nmea-rewritten s h
-rewritten unknown s b h t = cc
+rewritten Mgl s b h t = mgl-rewritten s b h
+rewritten Onflight s b h t = onflight-rewritten s h
+rewritten Nmea s b h t = nmea-rewritten s h
+rewritten Unknown s b h t = cc
 
 pub frames-read-then-written : ReadThenWritten
 frames-read-then-written f s out b h e =

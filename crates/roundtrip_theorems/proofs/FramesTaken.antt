@@ -7,7 +7,8 @@ use native.Mathlib.Omega.{arith}
 use lib.Dec.{eqb, leb}
 use lib.ListN.{length}
 use borrow.Author.Tests.{le-leb, eqb-true, eq-eqb}
-use Rattle.framing.specs.Format.{mgl, onflight, nmea, unknown, shortest, longest, body_start, body_end}
+use Rattle.framing.specs.declared.Format.TheVariants.{Mgl, Onflight, Nmea, Unknown}
+use Rattle.framing.specs.Format.{shortest, longest, body_start, body_end}
 use Rattle.content.specs.Body.{body_of}
 use Rattle.content.proofs.BodyLaws.{frame-test, frame-long, frame-short, onflight-length, body-length}
 use Rattle.frame_writer.specs.Frames.{takes}
@@ -28,20 +29,20 @@ mgl-taken n a b = go (eqb (n % 4) 0) refl
 
 pub frames-taken : FramesTaken
 unfolding takes body_start body_end shortest longest
-frames-taken mgl s e =
-    let h = (frame-test mgl s).1 e in
-    let l = body-length mgl s h in
-    mgl-taken (length (body_of mgl s)) (omega (arith, frame-long mgl s h)) (omega (arith, frame-short mgl s h))
-frames-taken onflight s e =
-    let h = (frame-test onflight s).1 e in
-    let l = body-length onflight s h in
-    eq-eqb (length (body_of onflight s)) 152 (omega (arith, onflight-length s h))
-frames-taken nmea s e =
-    let h = (frame-test nmea s).1 e in
-    let l = body-length nmea s h in
+frames-taken Mgl s e =
+    let h = (frame-test Mgl s).1 e in
+    let l = body-length Mgl s h in
+    mgl-taken (length (body_of Mgl s)) (omega (arith, frame-long Mgl s h)) (omega (arith, frame-short Mgl s h))
+frames-taken Onflight s e =
+    let h = (frame-test Onflight s).1 e in
+    let l = body-length Onflight s h in
+    eq-eqb (length (body_of Onflight s)) 152 (omega (arith, onflight-length s h))
+frames-taken Nmea s e =
+    let h = (frame-test Nmea s).1 e in
+    let l = body-length Nmea s h in
     rw (
-      le-leb 1 (length (body_of nmea s)) (omega (arith, frame-long nmea s h)),
-      le-leb (length (body_of nmea s)) 76 (omega (arith, frame-short nmea s h)),
+      le-leb 1 (length (body_of Nmea s)) (omega (arith, frame-long Nmea s h)),
+      le-leb (length (body_of Nmea s)) 76 (omega (arith, frame-short Nmea s h)),
       body-permitted s e,
     )
-frames-taken unknown s e = refl
+frames-taken Unknown s e = refl

@@ -7,7 +7,9 @@ use mathlib.Core.List.{List, [], ◌∷◌, ◌++◌}
 use native.Mathlib.Omega.{arith}
 use lib.ListN.{length}
 use Rattle.numbers.proofs.LowBytes.{length-low_bytes}
-use Rattle.framing.specs.Format.{Format, mgl, onflight, nmea, unknown, body_start, body_end}
+use Rattle.framing.specs.declared.Format.{Format}
+use Rattle.framing.specs.declared.Format.TheVariants.{Mgl, Onflight, Nmea, Unknown}
+use Rattle.framing.specs.Format.{body_start, body_end}
 use Rattle.framing.specs.Frame.{IsFrame}
 use Rattle.framing.proofs.FrameLaws.{frame-means}
 use Rattle.content.specs.Body.{is_frame, body_of}
@@ -24,18 +26,18 @@ use Rattle.roundtrip_theorems.proofs.PartLaws.{between}
 
 -- ---- the frame
 
-nmea-frame : (body : List ℕ) → takes nmea body ≡ true → IsFrame nmea (nmea_frame body)
-nmea-frame body t = let b = taken-body body t in (frame-means nmea (nmea_frame body)).1 (nmea-shape body b, nmea-good body b)
+nmea-frame : (body : List ℕ) → takes Nmea body ≡ true → IsFrame Nmea (nmea_frame body)
+nmea-frame body t = let b = taken-body body t in (frame-means Nmea (nmea_frame body)).1 (nmea-shape body b, nmea-good body b)
 
 -- What a writer takes, it makes one frame of.
 pub frame-of-taken : (f : Format) (c : Content) → IsContent c → takes f c.body ≡ true → IsFrame f (frame_of f c)
 unfolding takes mgl_covered
-frame-of-taken mgl c b t =
+frame-of-taken Mgl c b t =
     let n = taken-long c.body t in
-    (frame-means mgl _).1 (mgl-shape c.header c.body (omega arith) (omega arith), mgl-good c.header c.body b)
-frame-of-taken onflight c b t = (frame-means onflight _).1 (onflight-shape c.body t, onflight-good c.body)
-frame-of-taken nmea c b t = nmea-frame c.body t
-frame-of-taken unknown c b t = cc
+    (frame-means Mgl _).1 (mgl-shape c.header c.body (omega arith) (omega arith), mgl-good c.header c.body b)
+frame-of-taken Onflight c b t = (frame-means Onflight _).1 (onflight-shape c.body t, onflight-good c.body)
+frame-of-taken Nmea c b t = nmea-frame c.body t
+frame-of-taken Unknown c b t = cc
 
 -- ---- the body
 
@@ -45,30 +47,30 @@ body_reads : (f : Format) (x b y : List ℕ) → IsFrame f (x ++ (b ++ y)) → l
 body_reads f x b y h p q =
     sym (body_at f (x ++ (b ++ y)) ((frame-test f (x ++ (b ++ y))).1 h) refl refl) ∙ between x b y (body_start f) (body_end f) p q
 
-nmea-body : (body : List ℕ) → IsFrame nmea (nmea_frame body) → body_of nmea (nmea_frame body) ≡ body
+nmea-body : (body : List ℕ) → IsFrame Nmea (nmea_frame body) → body_of Nmea (nmea_frame body) ≡ body
 unfolding nmea_frame body_start body_end
-nmea-body body h = body_reads nmea (0x24 ∷ []) body _ h refl refl
+nmea-body body h = body_reads Nmea (0x24 ∷ []) body _ h refl refl
 
 body-of-frame : (f : Format) (c : Content) → takes f c.body ≡ true → IsFrame f (frame_of f c) → body_of f (frame_of f c) ≡ c.body
 unfolding takes body_start body_end mgl_frame mgl_covered onflight_frame onflight_covered
-body-of-frame mgl c t h = body_reads mgl (0x05 ∷ 0x02 ∷ _ ∷ _ ∷ _ ∷ _ ∷ _ ∷ _ ∷ []) c.body _ h refl (length-low_bytes 4 _)
-body-of-frame onflight c t h = body_reads onflight (0x42 ∷ 0x46 ∷ 0x01 ∷ 0x98 ∷ []) c.body _ h refl refl
-body-of-frame nmea c t h = nmea-body c.body h
-body-of-frame unknown c t h = cc
+body-of-frame Mgl c t h = body_reads Mgl (0x05 ∷ 0x02 ∷ _ ∷ _ ∷ _ ∷ _ ∷ _ ∷ _ ∷ []) c.body _ h refl (length-low_bytes 4 _)
+body-of-frame Onflight c t h = body_reads Onflight (0x42 ∷ 0x46 ∷ 0x01 ∷ 0x98 ∷ []) c.body _ h refl refl
+body-of-frame Nmea c t h = nmea-body c.body h
+body-of-frame Unknown c t h = cc
 
 -- A sentence that is written is one, and reads as its body.
-pub nmea-frame-reads : (body : List ℕ) → takes nmea body ≡ true
-    → (is_frame nmea (nmea_frame body) ≡ true) × (body_of nmea (nmea_frame body) ≡ body)
-nmea-frame-reads body t = let h = nmea-frame body t in ((frame-test nmea (nmea_frame body)).1 h, nmea-body body h)
+pub nmea-frame-reads : (body : List ℕ) → takes Nmea body ≡ true
+    → (is_frame Nmea (nmea_frame body) ≡ true) × (body_of Nmea (nmea_frame body) ≡ body)
+nmea-frame-reads body t = let h = nmea-frame body t in ((frame-test Nmea (nmea_frame body)).1 h, nmea-body body h)
 
 -- ---- the header
 
 header-of-frame : (f : Format) (c : Content) → IsFrame f (frame_of f c) → ReadsHeader f c.header (frame_of f c)
 unfolding header_of mgl_frame mgl_covered
-header-of-frame mgl c h = sym (passes _ _ ((frame-test mgl (frame_of mgl c)).1 h))
-header-of-frame onflight c h = tt
-header-of-frame nmea c h = tt
-header-of-frame unknown c h = tt
+header-of-frame Mgl c h = sym (passes _ _ ((frame-test Mgl (frame_of Mgl c)).1 h))
+header-of-frame Onflight c h = tt
+header-of-frame Nmea c h = tt
+header-of-frame Unknown c h = tt
 
 -- ---- all of it
 

@@ -14,7 +14,8 @@ use Rattle.framing.specs.declared.Scanned.TheVariants.{Whole}
 use Rattle.framing.specs.Rules.{more}
 use Rattle.numbers.specs.Hex.{hex_digit_of}
 use Rattle.framing.specs.Nmea.{permitted, hex_digit, body_next, nmea_next}
-use Rattle.framing.specs.Format.{nmea, next, good}
+use Rattle.framing.specs.declared.Format.TheVariants.{Nmea}
+use Rattle.framing.specs.Format.{next, good}
 use Rattle.framing.specs.Shape.{scan_from, scan}
 use Rattle.framing.specs.Meaning.{IsShape, Bytes}
 use Rattle.framing.proofs.TestLaws.{true_of}
@@ -31,7 +32,7 @@ pub record Body (body : List ℕ) : Type 0 where
   pub most : length body ≤ 76
   pub permitted : all_permitted body ≡ true
 
-pub taken-body : (body : List ℕ) → takes nmea body ≡ true → Body body
+pub taken-body : (body : List ℕ) → takes Nmea body ≡ true → Body body
 unfolding takes
 taken-body body h =
     let a = (and-eq-true_iff (leb 1 (length body) && leb (length body) 76) (all_permitted body)).0 h in
@@ -62,13 +63,13 @@ body-byte n x h l = rw (h, ne_eqb x 0x2A (permitted-byte x h).1, lt-ltb n 76 l)
 
 module _ (c d : ℕ) (first : T (hex_digit c)) (second : T (hex_digit d)) where
   -- from the `*` on, behind n body bytes
-  end-scan : (n : ℕ) → 0 < n → scan_from nmea (suc n) 0 (last_five c d) ≡ Whole (n + 6)
+  end-scan : (n : ℕ) → 0 < n → scan_from Nmea (suc n) 0 (last_five c d) ≡ Whole (n + 6)
   unfolding scan_from next nmea_next body_next
   end-scan n h = rw (lt-ltb 0 n h, true_of (hex_digit c) first, true_of (hex_digit d) second) (ap Whole (omega arith))
 
   -- from byte n of the body on
   pub body-scan : (n : ℕ) (body : List ℕ) → all_permitted body ≡ true → 0 < n + length body → n + length body ≤ 76
-      → scan_from nmea (suc n) 0 (body ++ last_five c d) ≡ Whole (n + length body + 6)
+      → scan_from Nmea (suc n) 0 (body ++ last_five c d) ≡ Whole (n + length body + 6)
   unfolding scan_from next nmea_next all_permitted
   body-scan n [] p h l = end-scan n (omega arith) ∙ ap Whole (omega arith)
   body-scan n (x ∷ body) p h l =
@@ -84,13 +85,13 @@ module _ (body : List ℕ) (b : Body body) where
   low_below : xor_of body % 16 < 16
   low_below = omega arith
 
-  pub nmea-shape : IsShape nmea (nmea_frame body)
+  pub nmea-shape : IsShape Nmea (nmea_frame body)
   unfolding nmea_frame scan scan_from next nmea_next
   nmea-shape =
       body-scan _ _ (digit-is _ high-below) (digit-is _ low_below) 0 body b.permitted (omega (arith, b.some)) (omega (arith, b.most))
       ∙ ap Whole (omega (arith, length-append body (last_five (hex_digit_of (xor_of body / 16)) (hex_digit_of (xor_of body % 16)))))
 
-  pub nmea-good : T (good nmea (nmea_frame body))
+  pub nmea-good : T (good Nmea (nmea_frame body))
   unfolding nmea_frame good
   nmea-good =
       let y = last_five (hex_digit_of (xor_of body / 16)) (hex_digit_of (xor_of body % 16)) in

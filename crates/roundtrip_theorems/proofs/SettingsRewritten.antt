@@ -8,12 +8,11 @@ use native.Mathlib.Omega.{arith}
 use lib.Dec.{T, leb, ltb, eqb}
 use lib.ListN.{length, get_or}
 use borrow.Author.Tests.{eqb-true, ltb-true}
-use Rattle.framing.specs.Format.{nmea}
+use Rattle.framing.specs.declared.Format.TheVariants.{Nmea}
 use Rattle.answer.specs.Answer.{Answer, unless}
 use Rattle.content.specs.Body.{is_frame, body_of}
 use Rattle.content.proofs.BodyLaws.{frame-test}
-use Rattle.nmea_sentence.specs.declared.Digits.{Digits}
-use Rattle.nmea_sentence.specs.declared.Digits.TheVariants.{Of, None}
+use Rattle.std.specs.Prelude.{Option, Some, None}
 use Rattle.nmea_sentence.specs.Fields.{fields, field_at}
 use Rattle.nmea_sentence.specs.Judge.{eq_bytes}
 use Rattle.nmea_sentence.proofs.JudgeLaws.{equal}
@@ -65,10 +64,10 @@ record Rewritten (source name value : List ℕ) (a : Answer Setting) : Type 0 wh
   taken : takes_setting a.value ≡ true
 
 module _ (source name value : List ℕ) where
-  in-range : length source ≡ 1 → is_source (get_or source 0 0) ≡ true → parameter_of name < 4 → (v : Digits) → value_of (rule_of (parameter_of name)).decimals value ≡ v
+  in-range : length source ≡ 1 → is_source (get_or source 0 0) ≡ true → parameter_of name < 4 → (v : Option ℕ) → value_of (rule_of (parameter_of name)).decimals value ≡ v
       → (ranged (get_or source 0 0) (parameter_of name) v).number ≡ 0 → Rewritten source name value (ranged (get_or source 0 0) (parameter_of name) v)
   unfolding takes_setting
-  in-range l b p (Of n) q e =
+  in-range l b p (Some n) q e =
       let r = rule_of (parameter_of name) in
       granted (Rewritten source name value) no_setting (leb r.least n && leb n r.most) 8 _ e
       (λ t h.
@@ -120,10 +119,10 @@ pub record Sentence (s : List ℕ) (a : Answer Setting) : Type 0 where
 pub sentence-rewritten : (s : List ℕ) → (setting_of s).number ≡ 0 → Sentence s (setting_of s)
 sentence-rewritten s e =
     rw (setting-of s)
-    (granted (Sentence s) no_setting (is_frame nmea s) 6 (from_fields (fields (body_of nmea s))) (rw (setting-of s) at e)
+    (granted (Sentence s) no_setting (is_frame Nmea s) 6 (from_fields (fields (body_of Nmea s))) (rw (setting-of s) at e)
     (λ t f.
-    let r = body-rewritten (body_of nmea s) f in
-    record { same = ap nmea_frame r.same ∙ nmea-rewritten s ((frame-test nmea s).0 t); taken = r.taken }))
+    let r = body-rewritten (body_of Nmea s) f in
+    record { same = ap nmea_frame r.same ∙ nmea-rewritten s ((frame-test Nmea s).0 t); taken = r.taken }))
 
 pub setting-read-then-written : SettingReadThenWritten
 setting-read-then-written s out e =

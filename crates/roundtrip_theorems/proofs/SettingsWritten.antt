@@ -12,7 +12,7 @@ use borrow.Author.Tests.{le-leb, lt-ltb, ne_eqb}
 use Rattle.decimal.specs.Decimal.{last_digits, digit_count, decimal_text}
 use Rattle.decimal.proofs.DecimalLaws.{count_most}
 use Rattle.decimal.proofs.DigitTexts.{Digits, last_digits_lem, text-digits}
-use Rattle.framing.specs.Format.{nmea}
+use Rattle.framing.specs.declared.Format.TheVariants.{Nmea}
 use Rattle.answer.specs.Answer.{Answer, given, unless}
 use Rattle.content.specs.Body.{is_frame, body_of}
 use Rattle.content.proofs.BodyLaws.{frame-test}
@@ -79,7 +79,7 @@ from_fields fs =
     (unless no_setting (eqb (length fs) 4) 9
     (fields_setting (get_or fs 1 []) (get_or fs 2 []) (get_or fs 3 [])))
 
-pub setting-of : (s : List ℕ) → setting_of s ≡ unless no_setting (is_frame nmea s) 7 (from_fields (fields (body_of nmea s)))
+pub setting-of : (s : List ℕ) → setting_of s ≡ unless no_setting (is_frame Nmea s) 7 (from_fields (fields (body_of Nmea s)))
 unfolding setting_of has_tag field_at
 setting-of s = refl
 
@@ -113,7 +113,7 @@ sentence-reads x e =
     let t = taken-means x e in
     let r = nmea-frame-reads (setting_body x) (body-taken x e) in
     record {
-      frame = (frame-test nmea s).0 r.0;
+      frame = (frame-test Nmea s).0 r.0;
       setting = setting-of s ∙ rw (r.0, r.1, body-fields x t.source) (parts-read x t (parameter-known x e));
     }
 

@@ -16,7 +16,9 @@ use Rattle.framing.specs.Rules.{Next, more, must}
 use Rattle.framing.specs.Mgl.{length_from_byte, mgl_next}
 use Rattle.framing.specs.Onflight.{onflight_next}
 use Rattle.framing.specs.Nmea.{permitted, hex_digit, body_next, nmea_next}
-use Rattle.framing.specs.Format.{Format, mgl, onflight, nmea, next}
+use Rattle.framing.specs.declared.Format.{Format}
+use Rattle.framing.specs.declared.Format.TheVariants.{Mgl, Onflight, Nmea}
+use Rattle.framing.specs.Format.{next}
 use Rattle.framing.specs.Shape.{follow, scan_from, scan}
 use Rattle.framing.specs.Meaning.{IsShape}
 use Rattle.framing.proofs.TestLaws.{true_of}
@@ -64,13 +66,13 @@ counted-whole f c m j xs h e = pick (leb m (4 + length xs)) (sym (counted f 4 c 
     pick true q = cc
     pick false q = no_whole q
 
-pub mgl-head : (s : List ℕ) → IsShape mgl s → MglShape s
+pub mgl-head : (s : List ℕ) → IsShape Mgl s → MglShape s
 unfolding scan next mgl_next
 mgl-head s e =
-    let a = peel mgl 0 0 (length s) s (λ b. eqb b 0x05) (λ b. 0) StartByte (λ b. refl) e in
-    let b = peel mgl 1 0 (length s) a.rest (λ b. eqb b 0x02) (λ b. 0) SecondByte (λ b. refl) a.onward in
-    let l = peel mgl 2 0 (length s) b.rest (λ b. true) (λ b. b) HeaderByte (λ b. refl) b.onward in
-    let x = peel mgl 3 l.byte (length s) l.rest (λ b. eqb (l.byte + b) 255) (λ b. length_from_byte l.byte + 20) HeaderByte (λ b. refl) l.onward in
+    let a = peel Mgl 0 0 (length s) s (λ b. eqb b 0x05) (λ b. 0) StartByte (λ b. refl) e in
+    let b = peel Mgl 1 0 (length s) a.rest (λ b. eqb b 0x02) (λ b. 0) SecondByte (λ b. refl) a.onward in
+    let l = peel Mgl 2 0 (length s) b.rest (λ b. true) (λ b. b) HeaderByte (λ b. refl) b.onward in
+    let x = peel Mgl 3 l.byte (length s) l.rest (λ b. eqb (l.byte + b) 255) (λ b. length_from_byte l.byte + 20) HeaderByte (λ b. refl) l.onward in
     let ea : a.byte ≡ 0x05 = eqb→eq a.byte 0x05 a.test in
     let eb : b.byte ≡ 0x02 = eqb→eq b.byte 0x02 b.test in
     record {
@@ -79,16 +81,16 @@ mgl-head s e =
       rest = x.rest;
       same = cc (a.same, b.same, l.same, x.same);
       sum = eqb→eq (l.byte + x.byte) 255 x.test;
-      long = counted-whole mgl mgl-counts (length_from_byte l.byte + 20) (length s) x.rest (omega arith) x.onward;
+      long = counted-whole Mgl mgl-counts (length_from_byte l.byte + 20) (length s) x.rest (omega arith) x.onward;
     }
 
-pub onflight-head : (s : List ℕ) → IsShape onflight s → OnflightShape s
+pub onflight-head : (s : List ℕ) → IsShape Onflight s → OnflightShape s
 unfolding scan next onflight_next
 onflight-head s e =
-    let a = peel onflight 0 0 (length s) s (λ b. eqb b 0x42) (λ b. 0) StartByte (λ b. refl) e in
-    let b = peel onflight 1 0 (length s) a.rest (λ b. eqb b 0x46) (λ b. 0) SecondByte (λ b. refl) a.onward in
-    let v = peel onflight 2 0 (length s) b.rest (λ b. eqb b 0x01) (λ b. 0) HeaderByte (λ b. refl) b.onward in
-    let l = peel onflight 3 0 (length s) v.rest (λ b. eqb b 0x98) (λ b. 158) HeaderByte (λ b. refl) v.onward in
+    let a = peel Onflight 0 0 (length s) s (λ b. eqb b 0x42) (λ b. 0) StartByte (λ b. refl) e in
+    let b = peel Onflight 1 0 (length s) a.rest (λ b. eqb b 0x46) (λ b. 0) SecondByte (λ b. refl) a.onward in
+    let v = peel Onflight 2 0 (length s) b.rest (λ b. eqb b 0x01) (λ b. 0) HeaderByte (λ b. refl) b.onward in
+    let l = peel Onflight 3 0 (length s) v.rest (λ b. eqb b 0x98) (λ b. 158) HeaderByte (λ b. refl) v.onward in
     let ea : a.byte ≡ 0x42 = eqb→eq a.byte 0x42 a.test in
     let eb : b.byte ≡ 0x46 = eqb→eq b.byte 0x46 b.test in
     let ev : v.byte ≡ 0x01 = eqb→eq v.byte 0x01 v.test in
@@ -96,7 +98,7 @@ onflight-head s e =
     record {
       rest = l.rest;
       same = cc (a.same, b.same, v.same, l.same);
-      long = counted-whole onflight onflight-counts 158 (length s) l.rest (omega arith) l.onward;
+      long = counted-whole Onflight onflight-counts 158 (length s) l.rest (omega arith) l.onward;
     }
 
 -- ---- a sentence
@@ -119,10 +121,10 @@ none_left : (xs : List ℕ) → length xs ≡ 0 → xs ≡ []
 none_left [] e = refl
 none_left (x ∷ xs) e = absurd (omega arith)
 
-last_byte : (k j : ℕ) (xs : List ℕ) → suc k + length xs ≡ j → scan_from nmea (suc k) 4 xs ≡ Whole j → xs ≡ 0x0A ∷ []
+last_byte : (k j : ℕ) (xs : List ℕ) → suc k + length xs ≡ j → scan_from Nmea (suc k) 4 xs ≡ Whole j → xs ≡ 0x0A ∷ []
 unfolding scan_from next nmea_next
 last_byte k j [] n e = no_whole e
-last_byte k j (x ∷ xs) n e = go (must-whole (suc k) j (eqb x 0x0A) _ Ending (λ i. scan_from nmea (suc (suc k)) i xs) e)
+last_byte k j (x ∷ xs) n e = go (must-whole (suc k) j (eqb x 0x0A) _ Ending (λ i. scan_from Nmea (suc (suc k)) i xs) e)
   where
     go : T (eqb x 0x0A) × (Whole (suc (suc k)) ≡ Whole j) → x ∷ xs ≡ 0x0A ∷ []
     go p =
@@ -131,12 +133,12 @@ last_byte k j (x ∷ xs) n e = go (must-whole (suc k) j (eqb x 0x0A) _ Ending (�
         let b : xs ≡ [] = none_left xs (omega arith) in
         cc
 
-after-star : (k j : ℕ) (xs : List ℕ) → suc k + length xs ≡ j → scan_from nmea (suc k) 1 xs ≡ Whole j → Ended (0x2A ∷ xs)
+after-star : (k j : ℕ) (xs : List ℕ) → suc k + length xs ≡ j → scan_from Nmea (suc k) 1 xs ≡ Whole j → Ended (0x2A ∷ xs)
 unfolding next nmea_next all_permitted
 after-star k j xs n e =
-    let d = peel nmea (suc k) 1 j xs (λ b. hex_digit b) (λ b. 2) Ending (λ b. refl) e in
-    let f = peel nmea (suc (suc k)) 2 j d.rest (λ b. hex_digit b) (λ b. 3) Ending (λ b. refl) d.onward in
-    let c = peel nmea (suc (suc (suc k))) 3 j f.rest (λ b. eqb b 0x0D) (λ b. 4) Ending (λ b. refl) f.onward in
+    let d = peel Nmea (suc k) 1 j xs (λ b. hex_digit b) (λ b. 2) Ending (λ b. refl) e in
+    let f = peel Nmea (suc (suc k)) 2 j d.rest (λ b. hex_digit b) (λ b. 3) Ending (λ b. refl) d.onward in
+    let c = peel Nmea (suc (suc (suc k))) 3 j f.rest (λ b. eqb b 0x0D) (λ b. 4) Ending (λ b. refl) f.onward in
     let ec : c.byte ≡ 0x0D = eqb→eq c.byte 0x0D c.test in
     let i : suc (suc (suc (suc k))) + length c.rest ≡ j = omega (arith, ap length d.same, ap length f.same, ap length c.same) in
     let l : c.rest ≡ 0x0A ∷ [] = last_byte (suc (suc (suc k))) j c.rest i c.onward in
@@ -168,11 +170,11 @@ body-byte k j x xs go e star other = pick (eqb x 0x2A) refl e
         let p = must-whole (suc k) j (permitted x) (must (ltb k 76) (more 0) BodyTooLong) BodyByte go q in
         more-body x xs p.0 (other (must-whole (suc k) j (ltb k 76) (more 0) BodyTooLong go p.1).1)
 
-in_body : (k j : ℕ) (xs : List ℕ) → suc k + length xs ≡ j → scan_from nmea (suc k) 0 xs ≡ Whole j → Ended xs
+in_body : (k j : ℕ) (xs : List ℕ) → suc k + length xs ≡ j → scan_from Nmea (suc k) 0 xs ≡ Whole j → Ended xs
 unfolding scan_from next nmea_next
 in_body k j [] n e = no_whole e
 in_body k j (x ∷ xs) n e =
-    body-byte k j x xs (λ i. scan_from nmea (suc (suc k)) i xs) e (after-star (suc k) j xs (omega arith)) (in_body (suc k) j xs (omega arith))
+    body-byte k j x xs (λ i. scan_from Nmea (suc (suc k)) i xs) e (after-star (suc k) j xs (omega arith)) (in_body (suc k) j xs (omega arith))
 
 -- `$`, and what is ended so
 pub record NmeaEnds (s : List ℕ) : Type 0 where
@@ -180,9 +182,9 @@ pub record NmeaEnds (s : List ℕ) : Type 0 where
   pub same : s ≡ 0x24 ∷ rest
   pub after : Ended rest
 
-pub nmea-ends : (s : List ℕ) → IsShape nmea s → NmeaEnds s
+pub nmea-ends : (s : List ℕ) → IsShape Nmea s → NmeaEnds s
 unfolding scan next nmea_next
 nmea-ends s e =
-    let a = peel nmea 0 0 (length s) s (λ b. eqb b 0x24) (λ b. 0) StartByte (λ b. refl) e in
+    let a = peel Nmea 0 0 (length s) s (λ b. eqb b 0x24) (λ b. 0) StartByte (λ b. refl) e in
     let ea : a.byte ≡ 0x24 = eqb→eq a.byte 0x24 a.test in
     record { rest = a.rest; same = cc a.same; after = in_body 0 (length s) a.rest (omega (arith, ap length a.same)) a.onward }

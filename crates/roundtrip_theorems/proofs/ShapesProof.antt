@@ -11,7 +11,9 @@ use Rattle.framing.specs.declared.Scanned.TheVariants.{Whole}
 use Rattle.framing.specs.Mgl.{length_from_byte, mgl_next}
 use Rattle.framing.specs.Onflight.{onflight_next}
 use Rattle.framing.specs.Nmea.{nmea_next}
-use Rattle.framing.specs.Format.{Format, mgl, onflight, nmea, unknown, known, shortest, longest, pending_bound, next}
+use Rattle.framing.specs.declared.Format.{Format}
+use Rattle.framing.specs.declared.Format.TheVariants.{Mgl, Onflight, Nmea, Unknown}
+use Rattle.framing.specs.Format.{known, shortest, longest, pending_bound, next}
 use Rattle.framing.specs.Shape.{scan_from, scan}
 use Rattle.framing.specs.Meaning.{IsShape}
 use Rattle.framing.proofs.MglLaws.{mgl-counts}
@@ -26,12 +28,12 @@ use Rattle.roundtrip_theorems.proofs.NmeaWritten.{body-scan}
 
 -- ---- a shape has the layout
 
-nmea-shaped : (s : List ℕ) → IsShape nmea s → NmeaShape s
+nmea-shaped : (s : List ℕ) → IsShape Nmea s → NmeaShape s
 unfolding shortest longest pending_bound
 nmea-shaped s e =
     let w = nmea-ends s e in
     let x = w.after in
-    let b = whole-within nmea (length s) s e in
+    let b = whole-within Nmea (length s) s e in
     let n : length s ≡ length x.body + 6 =
     omega (arith, ap length w.same, ap length x.same, length-append x.body (last_five x.high x.low))
     in
@@ -45,29 +47,29 @@ nmea-shaped s e =
       same = w.same ∙ ap (λ (l : List ℕ). 0x24 ∷ l) x.same;
     }
 
-no-shape : (s : List ℕ) → IsShape unknown s → ⊥
+no-shape : (s : List ℕ) → IsShape Unknown s → ⊥
 unfolding scan scan_from next
 no-shape [] e = let z : ◌≡◌ {A = ℕ} 0 1 = cc in omega arith
 no-shape (x ∷ s) e = let z : ◌≡◌ {A = ℕ} 0 1 = cc in omega arith
 
 laid_out : (f : Format) (s : List ℕ) → IsShape f s → Shaped f s
-laid_out mgl s e = mgl-head s e
-laid_out onflight s e = onflight-head s e
-laid_out nmea s e = nmea-shaped s e
-laid_out unknown s e = no-shape s e
+laid_out Mgl s e = mgl-head s e
+laid_out Onflight s e = onflight-head s e
+laid_out Nmea s e = nmea-shaped s e
+laid_out Unknown s e = no-shape s e
 
 -- ---- what has the layout is a shape
 
-mgl-shape : (l x : ℕ) (rest : List ℕ) → l + x ≡ 255 → length_from_byte l + 20 ≡ 4 + length rest → IsShape mgl (0x05 ∷ 0x02 ∷ l ∷ x ∷ rest)
+mgl-shape : (l x : ℕ) (rest : List ℕ) → l + x ≡ 255 → length_from_byte l + 20 ≡ 4 + length rest → IsShape Mgl (0x05 ∷ 0x02 ∷ l ∷ x ∷ rest)
 unfolding scan scan_from next mgl_next
 mgl-shape l x rest e n =
-    rw (eq-eqb (l + x) 255 e) (filled mgl mgl-counts (length_from_byte l + 20) rest (omega arith) n ∙ ap Whole (omega arith))
+    rw (eq-eqb (l + x) 255 e) (filled Mgl mgl-counts (length_from_byte l + 20) rest (omega arith) n ∙ ap Whole (omega arith))
 
-onflight-shape : (rest : List ℕ) → 158 ≡ 4 + length rest → IsShape onflight (0x42 ∷ 0x46 ∷ 0x01 ∷ 0x98 ∷ rest)
+onflight-shape : (rest : List ℕ) → 158 ≡ 4 + length rest → IsShape Onflight (0x42 ∷ 0x46 ∷ 0x01 ∷ 0x98 ∷ rest)
 unfolding scan scan_from next onflight_next
-onflight-shape rest n = filled onflight onflight-counts 158 rest (omega arith) n ∙ ap Whole (omega arith)
+onflight-shape rest n = filled Onflight onflight-counts 158 rest (omega arith) n ∙ ap Whole (omega arith)
 
-nmea-shape : (s : List ℕ) (w : NmeaShape s) → IsShape nmea (0x24 ∷ (w.body ++ last_five w.high w.low))
+nmea-shape : (s : List ℕ) (w : NmeaShape s) → IsShape Nmea (0x24 ∷ (w.body ++ last_five w.high w.low))
 unfolding scan scan_from next nmea_next
 nmea-shape s w =
     let b = w.permitted in
@@ -75,12 +77,12 @@ nmea-shape s w =
     ∙ ap Whole (omega (arith, length-append w.body (last_five w.high w.low)))
 
 shape : (f : Format) (s : List ℕ) → Shaped f s → IsShape f s
-shape mgl s w =
-    subst (IsShape mgl) (sym w.same) (mgl-shape w.len w.complement w.rest w.sum (omega (arith, w.long, ap length w.same)))
-shape onflight s w =
-    subst (IsShape onflight) (sym w.same) (onflight-shape w.rest (omega (arith, w.long, ap length w.same)))
-shape nmea s w = subst (IsShape nmea) (sym w.same) (nmea-shape s w)
-shape unknown s w = absurd w
+shape Mgl s w =
+    subst (IsShape Mgl) (sym w.same) (mgl-shape w.len w.complement w.rest w.sum (omega (arith, w.long, ap length w.same)))
+shape Onflight s w =
+    subst (IsShape Onflight) (sym w.same) (onflight-shape w.rest (omega (arith, w.long, ap length w.same)))
+shape Nmea s w = subst (IsShape Nmea) (sym w.same) (nmea-shape s w)
+shape Unknown s w = absurd w
 
 pub shapes-exactly : ShapesExactly
 shapes-exactly f s = (laid_out f s, shape f s)
@@ -88,13 +90,13 @@ shapes-exactly f s = (laid_out f s, shape f s)
 -- ---- the shortest and the longest
 
 -- a head of four bytes that count, and zeros
-mgl-of : (l x n : ℕ) → l + x ≡ 255 → length_from_byte l + 20 ≡ 4 + n → ShapeOf mgl (4 + n)
+mgl-of : (l x n : ℕ) → l + x ≡ 255 → length_from_byte l + 20 ≡ 4 + n → ShapeOf Mgl (4 + n)
 mgl-of l x n e m =
     let rest : List ℕ = replicate n 0 in
     let z : length rest ≡ n = length-replicate n 0 in
     record { bytes = 0x05 ∷ 0x02 ∷ l ∷ x ∷ rest; shape = mgl-shape l x rest e (omega arith); long = omega arith }
 
-onflight-of : ShapeOf onflight 158
+onflight-of : ShapeOf Onflight 158
 onflight-of = record { bytes = 0x42 ∷ 0x46 ∷ 0x01 ∷ 0x98 ∷ replicate 154 0; shape = onflight-shape (replicate 154 0) refl; long = refl }
 
 letters : (n : ℕ) → all_permitted (replicate n 0x41) ≡ true
@@ -103,7 +105,7 @@ letters zero = refl
 letters (suc n) = letters n
 
 -- n letters, and the digits 00
-nmea-of : (n : ℕ) → 1 ≤ n → n ≤ 76 → ShapeOf nmea (n + 6)
+nmea-of : (n : ℕ) → 1 ≤ n → n ≤ 76 → ShapeOf Nmea (n + 6)
 unfolding scan scan_from next nmea_next
 nmea-of n a b =
     let body : List ℕ = replicate n 0x41 in
@@ -117,7 +119,7 @@ nmea-of n a b =
 
 pub layout-tight : LayoutTight
 unfolding known shortest longest
-layout-tight mgl t = (mgl-of 1 254 17 refl refl, mgl-of 0 255 272 refl refl)
-layout-tight onflight t = (onflight-of, onflight-of)
-layout-tight nmea t = (nmea-of 1 (omega arith) (omega arith), nmea-of 76 (omega arith) (omega arith))
-layout-tight unknown t = absurd t
+layout-tight Mgl t = (mgl-of 1 254 17 refl refl, mgl-of 0 255 272 refl refl)
+layout-tight Onflight t = (onflight-of, onflight-of)
+layout-tight Nmea t = (nmea-of 1 (omega arith) (omega arith), nmea-of 76 (omega arith) (omega arith))
+layout-tight Unknown t = absurd t

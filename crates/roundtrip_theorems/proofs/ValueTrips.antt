@@ -15,8 +15,7 @@ use borrow.Author.Tests.{le-leb, eq-eqb, ne_eqb, eqb-true, leb-true, lt-leb}
 use Rattle.decimal.specs.Decimal.{last_digits, digit_count, decimal_text}
 use Rattle.decimal.proofs.DecimalLaws.{count-some, count_most, length_last}
 use Rattle.decimal.proofs.DigitTexts.{last_digits_lem, text-digits, text-length}
-use Rattle.nmea_sentence.specs.declared.Digits.{Digits}
-use Rattle.nmea_sentence.specs.declared.Digits.TheVariants.{Of, None}
+use Rattle.std.specs.Prelude.{Option, Some, None}
 use Rattle.nmea_sentence.specs.Digits.{all_digits, decimal, digits_of}
 use Rattle.nmea_sentence.proofs.DigitLaws.{Written, written, reads, digits-below}
 use Rattle.nmea_plars.specs.Plars.{is_whole_part, steps, value_of}
@@ -37,7 +36,7 @@ whole-text (b ∷ c ∷ s) e h =
     go (yes p) = p
     go (no p) = absurd (omega (arith, count_most (length s) (decimal (b ∷ c ∷ s)) (omega arith)))
 
-last-reads : (k n : ℕ) → k ≤ 9 → digits_of (last_digits k n) ≡ Of (decimal (last_digits k n))
+last-reads : (k n : ℕ) → k ≤ 9 → digits_of (last_digits k n) ≡ Some (decimal (last_digits k n))
 last-reads k n h =
     let s = last_digits k n in
     sym (reads s (decimal s) (record { digits = all_digits_lem s (last_digits_lem k n); value = refl; few = omega (arith, length_last k n) }))
@@ -46,9 +45,9 @@ module _ (n : ℕ) where
   text-whole : is_whole_part (decimal_text n) ≡ true
   text-whole = whole-text (decimal_text n) (all_digits_lem (decimal_text n) (text-digits n)) (text-length n ∙ ap digit_count (sym (text-decimal n)))
 
-  text-reads : digit_count n ≤ 9 → digits_of (decimal_text n) ≡ Of n
+  text-reads : digit_count n ≤ 9 → digits_of (decimal_text n) ≡ Some n
   unfolding decimal_text
-  text-reads h = last-reads (digit_count n) n h ∙ ap Of (text-decimal n)
+  text-reads h = last-reads (digit_count n) n h ∙ ap Some (text-decimal n)
 
 -- a whole part, the point, and decimals
 at-point : (d : ℕ) (w f : List ℕ) → 0 < length w → length f ≡ suc d
@@ -59,7 +58,7 @@ at-point d w f h l =
     let k : length (w ++ 0x2E ∷ f) - (d + 2) ≡ length w = omega arith in
     rw (k, get_or_at w 0x2E f 0 (length w) refl, take_at w (0x2E ∷ f) (length w) refl, drop-append-add w (0x2E ∷ f) 1, le-leb (d + 3) (length (w ++ 0x2E ∷ f)) (omega arith))
 
-pub value-reads : (d n : ℕ) → digit_count (n / 10 ^ d) ≤ 9 → d ≤ 9 → value_of d (value_text d n) ≡ Of n
+pub value-reads : (d n : ℕ) → digit_count (n / 10 ^ d) ≤ 9 → d ≤ 9 → value_of d (value_text d n) ≡ Some n
 unfolding value_text value_of
 value-reads zero n h k =
     let e : n / 10 ^ 0 ≡ n = omega arith in
@@ -67,12 +66,12 @@ value-reads zero n h k =
 value-reads (suc d) n h k =
     let w = n / 10 ^ suc d in
     at-point d (decimal_text w) (last_digits (suc d) n) (omega (arith, text-length w, count-some w)) (length_last (suc d) n)
-    ∙ rw (text-whole w, text-reads w h, last-reads (suc d) n k) (ap Of (decimals-split (suc d) n))
+    ∙ rw (text-whole w, text-reads w h, last-reads (suc d) n k) (ap Some (decimals-split (suc d) n))
 
 -- ---- read, then written
 
 -- a test that guards a result
-guarded : (t : Bool) (r : Digits) (n : ℕ) → cond t r None ≡ Of n → (t ≡ true) × (r ≡ Of n)
+guarded : (t : Bool) (r : Option ℕ) (n : ℕ) → cond t r None ≡ Some n → (t ≡ true) × (r ≡ Some n)
 guarded true r n e = (refl, e)
 guarded false r n e = let z : ◌≡◌ {A = ℕ} 0 1 = cc in absurd (omega arith)
 
@@ -96,16 +95,16 @@ whole-written s n w r =
     ∙ written_all s r.digits
 
 -- a whole part and decimals that make n
-record Stepped (u : ℕ) (x y : Digits) (n : ℕ) : Type 0 where
+record Stepped (u : ℕ) (x y : Option ℕ) (n : ℕ) : Type 0 where
   whole : ℕ
   part : ℕ
-  wholes : x ≡ Of whole
-  parts : y ≡ Of part
+  wholes : x ≡ Some whole
+  parts : y ≡ Some part
   sum : whole * u + part ≡ n
 
-stepped : (u : ℕ) (x y : Digits) (n : ℕ) → steps u x y ≡ Of n → Stepped u x y n
-stepped u (Of w) (Of f) n e = record { whole = w; part = f; wholes = refl; parts = refl; sum = cc }
-stepped u (Of w) None n e = let z : ◌≡◌ {A = ℕ} 0 1 = cc in absurd (omega arith)
+stepped : (u : ℕ) (x y : Option ℕ) (n : ℕ) → steps u x y ≡ Some n → Stepped u x y n
+stepped u (Some w) (Some f) n e = record { whole = w; part = f; wholes = refl; parts = refl; sum = cc }
+stepped u (Some w) None n e = let z : ◌≡◌ {A = ℕ} 0 1 = cc in absurd (omega arith)
 stepped u None y n e = let z : ◌≡◌ {A = ℕ} 0 1 = cc in absurd (omega arith)
 
 module _ (d n : ℕ) (w f : List ℕ) (l : length f ≡ suc d) (r : Stepped (10 ^ suc d) (digits_of w) (digits_of f) n) where
@@ -135,7 +134,7 @@ module _ (d n : ℕ) (w f : List ℕ) (l : length f ≡ suc d) (r : Stepped (10 
 cut : (s : List ℕ) (k : ℕ) → k < length s → get_or s k 0 ≡ 0x2E → take k s ++ 0x2E ∷ drop (k + 1) s ≡ s
 cut s k h e = sym (split_at s k 0 h ∙ ap₂ (λ (b j : ℕ). take k s ++ b ∷ drop j s) e (sym (add-one k)))
 
-pub value_written : (d : ℕ) (s : List ℕ) (n : ℕ) → value_of d s ≡ Of n → value_text d n ≡ s
+pub value_written : (d : ℕ) (s : List ℕ) (n : ℕ) → value_of d s ≡ Some n → value_text d n ≡ s
 unfolding value_text value_of
 value_written zero s n e = let g = guarded (is_whole_part s) (digits_of s) n e in whole-written s n g.0 (written s n g.1)
 value_written (suc d) s n e =

@@ -1,6 +1,7 @@
 -- Written frames, back to back on a line (docs/FORMATS.md, "Round trips"). From demand 3.
 use Rattle.std.specs.Prelude.{ℕ, ◌≡◌, true, List, [], ◌∷◌, ◌++◌, T, length}
-use Rattle.framing.specs.Format.{Format, known, format_of}
+use Rattle.framing.specs.declared.Format.{Format}
+use Rattle.framing.specs.Format.{known, format_of}
 use Rattle.framing.specs.Reading.{Event, framed}
 use Rattle.reader.specs.State.{fresh_of}
 use Rattle.reader.specs.Calls.{Call}

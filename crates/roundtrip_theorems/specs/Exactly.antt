@@ -3,7 +3,9 @@
 -- single bytes (`next`) come to, but for the reasons of skipped bytes.
 use Rattle.std.specs.Prelude.{ℕ, ◌+◌, ◌≤◌, ◌≡◌, ◌↔◌, ◌⊎◌, List, [], ◌∷◌, ◌++◌, T, length}
 use Rattle.framing.specs.Mgl.{length_from_byte}
-use Rattle.framing.specs.Format.{Format, mgl, onflight, nmea, unknown, known, shortest, longest}
+use Rattle.framing.specs.declared.Format.{Format}
+use Rattle.framing.specs.declared.Format.TheVariants.{Mgl, Onflight, Nmea, Unknown}
+use Rattle.framing.specs.Format.{known, shortest, longest}
 use Rattle.framing.specs.Meaning.{IsShape, Bytes}
 use Rattle.framing.specs.Frame.{IsFrame}
 use Rattle.frame_writer.specs.Frames.{Content, frame_of}
@@ -23,10 +25,10 @@ IsHexDigit d = ((0x30 ≤ d) × (d ≤ 0x39)) ⊎ ((0x41 ≤ d) × (d ≤ 0x46))
 
 -- the bodies that frames of a format have
 abbrev pub IsBody : Format → List ℕ → Type 0
-IsBody mgl body = (9 ≤ length body) × (length body ≤ 264)
-IsBody onflight payload = length payload ≡ 152
-IsBody nmea body = (1 ≤ length body) × (length body ≤ 76) × AreBodyBytes body
-IsBody unknown body = ⊥
+IsBody Mgl body = (9 ≤ length body) × (length body ≤ 264)
+IsBody Onflight payload = length payload ≡ 152
+IsBody Nmea body = (1 ≤ length body) × (length body ≤ 76) × AreBodyBytes body
+IsBody Unknown body = ⊥
 
 -- ---- shapes: the checksum is not looked at
 
@@ -50,16 +52,16 @@ pub record NmeaShape (s : List ℕ) : Type 0 where
   pub body : List ℕ
   pub high : ℕ
   pub low : ℕ
-  pub permitted : IsBody nmea body
+  pub permitted : IsBody Nmea body
   pub first : IsHexDigit high
   pub second : IsHexDigit low
   pub same : s ≡ 0x24 ∷ (body ++ 0x2A ∷ high ∷ low ∷ 0x0D ∷ 0x0A ∷ [])
 
 abbrev pub Shaped : Format → List ℕ → Type 0
-Shaped mgl s = MglShape s
-Shaped onflight s = OnflightShape s
-Shaped nmea s = NmeaShape s
-Shaped unknown s = ⊥
+Shaped Mgl s = MglShape s
+Shaped Onflight s = OnflightShape s
+Shaped Nmea s = NmeaShape s
+Shaped Unknown s = ⊥
 
 -- Bytes are a shape of a format exactly if they are these bytes.
 abbrev pub ShapesExactly : Type 0

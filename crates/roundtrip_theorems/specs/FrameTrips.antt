@@ -1,6 +1,7 @@
 -- Whole frames, written and read back, and taken apart and written again (docs/FORMATS.md, "Round trips").
 use Rattle.std.specs.Prelude.{ℕ, ◌%◌, ◌≡◌, Bool, true, false, List, ◌∷◌, eqb, length, take}
-use Rattle.framing.specs.Format.{Format, mgl, onflight, nmea, unknown}
+use Rattle.framing.specs.declared.Format.{Format}
+use Rattle.framing.specs.declared.Format.TheVariants.{Mgl, Onflight, Nmea, Unknown}
 use Rattle.framing.specs.Meaning.{Bytes}
 use Rattle.framing.specs.Frame.{IsFrame}
 use Rattle.answer.specs.Answer.{Answer, given}
@@ -23,10 +24,10 @@ abbrev pub content_of : Format → List ℕ → Content
 content_of f s = record { header = (header_of s).value; body = body_of f s }
 
 abbrev pub ReadsHeader : Format → Header → List ℕ → Type 0
-ReadsHeader mgl h s = header_of s ≡ given h
-ReadsHeader onflight h s = Unit {0}
-ReadsHeader nmea h s = Unit {0}
-ReadsHeader unknown h s = Unit {0}
+ReadsHeader Mgl h s = header_of s ≡ given h
+ReadsHeader Onflight h s = Unit {0}
+ReadsHeader Nmea h s = Unit {0}
+ReadsHeader Unknown h s = Unit {0}
 
 -- The bytes s are one frame, whole, and read back as the content c.
 pub record ReadsBack (f : Format) (c : Content) (s : List ℕ) : Type 0 where
@@ -44,10 +45,10 @@ ReadThenWritten = (f : Format) (s out : List ℕ) → Bytes s → IsFrame f s �
 
 -- The frames whose content is taken: of MGL those whose body's length is a multiple of 4, and all of the others.
 abbrev pub writable : Format → List ℕ → Bool
-writable mgl body = eqb (length body % 4) 0
-writable onflight body = true
-writable nmea body = true
-writable unknown body = false
+writable Mgl body = eqb (length body % 4) 0
+writable Onflight body = true
+writable Nmea body = true
+writable Unknown body = false
 
 abbrev pub FramesTaken : Type 0
 FramesTaken = (f : Format) (s : List ℕ) → IsFrame f s → takes f (body_of f s) ≡ writable f (body_of f s)

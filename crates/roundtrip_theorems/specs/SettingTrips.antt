@@ -1,6 +1,6 @@
 -- PLARS settings, written and read back, and read and written again (docs/FORMATS.md, "Round trips").
 use Rattle.std.specs.Prelude.{ℕ, ◌≡◌, true, List}
-use Rattle.framing.specs.Format.{nmea}
+use Rattle.framing.specs.declared.Format.TheVariants.{Nmea}
 use Rattle.framing.specs.Frame.{IsFrame}
 use Rattle.answer.specs.Answer.{given}
 use Rattle.nmea_plars.specs.declared.Setting.{Setting}
@@ -10,7 +10,7 @@ use Rattle.roundtrip_theorems.specs.FrameTrips.{made}
 
 -- The bytes s are one sentence, whole, and read back as the setting x.
 pub record ReadsSetting (x : Setting) (s : List ℕ) : Type 0 where
-  pub frame : IsFrame nmea s
+  pub frame : IsFrame Nmea s
   pub setting : setting_of s ≡ given x
 
 abbrev pub SettingWrittenThenRead : Type 0

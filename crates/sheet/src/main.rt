@@ -1,7 +1,9 @@
-// sheet FILE: reads a bench file once, to its end or until `is_refused` says so, and then prints a sheet for each entry,
-// in order; or `refused 10`, where the file is broken in any way. This file only reads, steps and writes: what is printed is `sheets_of` of the
-// bytes read (crates/report/specs/Printed.antt).
+// sheet FILE: reads a bench file once, to its end or until `is_refused` says so, and then prints a sheet for each entry, in
+// order; or `refused 10`, where the file is broken in any way. This file only reads, steps and writes: what is printed is
+// `sheets_of` of the bytes read (crates/report/specs/Printed.antt).
 #![tactic(auto)]
+
+ghost use Rattle.std.specs.Prelude.{◌≡◌};
 
 mod progress;
 
@@ -21,37 +23,39 @@ fn fail(stderr: &mut impl Write, what: &str, error: &io::Error) {
 }
 
 // Prints what the file comes to.
-fn print(report: Report, stdout: &mut impl Write) -> io::Result<()> {
-    let mut text = [0u8; report::LONGEST_TEXT];
-    let n = report.write(&mut text);
-    stdout.write_all(&text[..n])
+fn print(report: &Report, stdout: &mut impl Write) -> io::Result<()> {
+    stdout.write_all(report.text().as_bytes())
 }
 
 // Reads the file to its end, or until its report is refused already. The count of bytes proves that the loop ends; a
 // file with more bytes is refused by then (`long-refused` of report).
-fn read_file(file: &mut impl Read, stderr: &mut (impl Write + IsTerminal)) -> io::Result<Report> {
+fn read_all(
+    file: &mut impl Read,
+    progress: &mut Progress,
+    stderr: &mut impl Write,
+) -> io::Result<Report>
+    requires { progress.old.done ≡ 0 }
+{
     let mut buf = [0u8; READ];
     let mut report = Report::fresh();
-    let mut progress = Progress::new(stderr);
-    while !report::is_too_long(progress.done) {
-        if report.is_refused() {
-            break;
-        }
-        let n = match file.read(&mut buf) {
-            Ok(n) => n,
-            Err(e) => {
-                progress.over(stderr);
-                return Err(e);
-            }
-        };
+    // Kept: a `while`, since a read gives any number of bytes: a `for` would count reads, and `is_too_long` counts bytes.
+    while !report.is_refused() && !report::is_too_long(progress.done) {
+        let n = file.read(&mut buf)?;
         if n == 0 {
             break;
         }
-        report = report.take(&buf[..n]);
-        progress = progress.advanced(stderr, n, report.length);
+        report.take(&buf[..n]);
+        progress.advance(stderr, n, report.length);
     }
-    progress.over(stderr);
     Ok(report)
+}
+
+// Reads the file, and says meanwhile how far it is read.
+fn read_file(file: &mut impl Read, stderr: &mut (impl Write + IsTerminal)) -> io::Result<Report> {
+    let mut progress = Progress::new(stderr);
+    let report = read_all(file, &mut progress, stderr);
+    progress.over(stderr);
+    report
 }
 
 // The report of a file by its name.
@@ -73,7 +77,7 @@ fn sheets(
 ) {
     match report_of(files, path, stderr) {
         Ok(report) => {
-            if let Err(e) = print(report, stdout) {
+            if let Err(e) = print(&report, stdout) {
                 fail(stderr, "sheet: standard output", &e);
             }
         }
@@ -85,10 +89,10 @@ fn sheets(
 fn only_argument(mut args: Args) -> Option<String> {
     args.next()?;
     let path = args.next()?;
-    match args.next() {
-        Some(_) => None,
-        None => Some(path),
+    if args.next().is_some() {
+        return None;
     }
+    Some(path)
 }
 
 fn main(rt: HostRuntime) {

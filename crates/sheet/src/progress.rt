@@ -11,7 +11,7 @@ const STRIDE: u64 = 16 * 1024 * 1024;
 
 const MEGABYTE: u64 = 1024 * 1024;
 
-#[derive(Clone, Copy)]
+#[derive(Drop)]
 pub(crate) struct Progress {
     pub(crate) done: u64,
     pub(crate) terminal: bool,
@@ -28,25 +28,26 @@ impl Progress {
         }
     }
 
-    // So many bytes more are read of a file of so many in all.
-    pub(crate) fn advanced(self, stderr: &mut impl Write, n: usize, total: u64) -> Progress
-        requires { self.done + n < 18446744073709551616 }
-        ensures { result.done ≡ self.done + n }
+    // So many bytes more are read of a file of so many in all, where that is known.
+    pub(crate) fn advance(&mut self, stderr: &mut impl Write, n: usize, total: Option<u64>)
+        requires { self.old.done + n < 18446744073709551616 }
+        ensures { self.new.done ≡ self.old.done + n }
     {
-        let done = self.done + n as u64;
-        if self.terminal && LONG < total && self.done / STRIDE != done / STRIDE {
+        let before = self.done;
+        let done = before + n as u64;
+        self.done = done;
+        let Some(total) = total else {
+            return;
+        };
+        if self.terminal && LONG < total && before / STRIDE != done / STRIDE {
             let megabytes = done / MEGABYTE;
             let of = total / MEGABYTE;
             let _ = write!(stderr, "\rread {megabytes} of {of} MB");
         }
-        Progress {
-            done: done,
-            terminal: self.terminal,
-        }
     }
 
     // The line is cleared.
-    pub(crate) fn over(self, stderr: &mut impl Write) {
+    pub(crate) fn over(&self, stderr: &mut impl Write) {
         if self.terminal && LONG < self.done {
             let _ = stderr.write_all(b"\r                                    \r");
         }

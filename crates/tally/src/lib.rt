@@ -2,16 +2,17 @@
 #![tactic(auto)]
 
 ghost use Rattle.std.specs.Prelude.{◌≡◌};
-ghost use Rattle.reader.specs.Calls.{a_piece, a_close};
+ghost use Rattle.reader.specs.Calls.{a_piece, a_close, outcome_of};
 ghost use Rattle.tally.specs.Step.{fresh_tally, stepped, after_outcome, tally_step, sheet_of};
 
+use answer::Refusal;
 use benchfile::sheet::Sheet;
-use reader::{Outcome, Reader};
+use reader::Reader;
 
-// The first refusal or 0, the frames so far, and the reader.
-#[derive(Clone, Copy)]
+// The first refusal, if there was one, the frames so far, and the reader.
+#[derive(Clone, Copy, Debug, PartialEq, Eq)]
 pub struct Tally {
-    pub answer: u32,
+    pub answer: Result<(), Refusal>,
     pub frames: u32,
     pub reader: Reader,
 }
@@ -21,57 +22,57 @@ impl Tally {
     pub const MAX_OUTPUT: usize = Reader::HELD + Reader::LONGEST_PIECE;
 
     // A tally of a fresh reader.
+    // Kept: a number, for which a sheet is printed whatever it names (`fresh_tally`); `Reader::fresh` takes it too.
     pub fn fresh(format: u32) -> Tally
         ensures { result ≡ fresh_tally format }
     {
         let opening = Reader::fresh(format);
-        let reader = opening.reader;
         Tally {
             answer: opening.answer,
             frames: 0,
-            reader: reader,
+            reader: opening.reader,
         }
     }
 
-    // The tally after a call that gave this outcome.
-    fn counted(self, o: Outcome) -> Tally
-        ensures { result ≡ after_outcome self o }
+    // Takes over what a call on the reader answered.
+    fn count(&mut self, call: Result<u32, Refusal>)
+        ensures { self.new ≡ after_outcome self.old (outcome_of call self.old.reader) }
     {
-        let reader = o.reader;
-        Tally {
-            answer: o.answer,
-            frames: std::num::wrapping_add_u32(self.frames, o.frames),
-            reader: reader,
+        self.frames = self.frames.wrapping_add(call.unwrap_or(0));
+        // Kept: a match; with `call.map(|_| ())` the answers did not close.
+        match call {
+            Ok(_) => self.answer = Ok(()),
+            Err(refusal) => self.answer = Err(refusal),
         }
     }
 
     // Reads a piece. After a refusal nothing is read any more.
-    pub fn piece(self, bytes: &[u8], out: &mut [u8]) -> Tally
-        ensures { stepped result out.new ≡ tally_step self (a_piece bytes.now out.old) }
+    pub fn piece(&mut self, bytes: &[u8], out: &mut [u8])
+        ensures { stepped self.new out.new ≡ tally_step self.old (a_piece bytes.now out.old) }
     {
-        if self.answer != 0 {
-            return self;
+        let refused = self.answer.is_err();
+        if !refused {
+            let call = self.reader.piece(bytes, out);
+            self.count(call);
         }
-        let reader = self.reader;
-        self.counted(reader.piece(bytes, out))
     }
 
     // Ends the capture. After a refusal nothing is closed.
-    pub fn close(self, out: &mut [u8]) -> Tally
-        ensures { stepped result out.new ≡ tally_step self (a_close out.old) }
+    pub fn close(&mut self, out: &mut [u8])
+        ensures { stepped self.new out.new ≡ tally_step self.old (a_close out.old) }
     {
-        if self.answer == 0 {
-            let reader = self.reader;
-            return self.counted(reader.close(out));
+        let open = self.answer.is_ok();
+        if open {
+            let call = self.reader.close(out);
+            self.count(call);
         }
-        self
     }
 
     // The five numbers of the capture's sheet.
-    pub fn sheet(self) -> Sheet
-        ensures { result ≡ sheet_of self }
+    pub fn sheet(&self) -> Sheet
+        ensures { result ≡ sheet_of self.now }
     {
-        let r = self.reader;
+        let r = &self.reader;
         Sheet {
             format: r.format,
             frames: self.frames,

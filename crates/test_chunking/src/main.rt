@@ -6,60 +6,47 @@ mod crafted;
 mod print;
 mod run;
 
-ghost use Rattle.std.specs.Prelude.{◌<◌, ◌≤◌};
-
-use captures::Line;
+use answer::Refusal;
+use captures::Capture;
 use run::Run;
 use std::io;
 use std::io::Write;
-use test_print::{write, write_u64};
+use test_print::{write, write_value};
 
 const SIZES: [usize; 8] = [1, 2, 3, 7, 64, 275, 276, 4096];
 
-// Where the piece that starts at `at` ends. A size of 0 stands for all that is left.
-fn piece_end(at: usize, size: usize, n: usize) -> usize
-    requires { at < n }
-    ensures { (at < result) × (result ≤ n) }
-{
-    if size == 0 {
-        return n;
-    }
-    if n - at < size { n } else { at + size }
-}
-
 // The line in pieces, each after a piece that is too long, and a close and a piece for which the output is a byte too small.
-fn fed(to: &mut impl Write, run: Run, line: &[u8], size: usize) -> io::Result<Run> {
-    let mut run = run;
-    let mut at = 0;
-    while at < line.len() {
-        let e = piece_end(at, size, line.len());
-        run = run::too_long(to, run, 0, 1)?;
-        run = run::close_without_out(to, run)?;
-        run = run::piece(to, run, &line[at..e], run::out_for(run, e - at, 1), 4)?;
-        run = run::piece(to, run, &line[at..e], run::out_for(run, e - at, 0), 0)?;
-        at = e;
+fn feed(to: &mut impl Write, run: &mut Run, line: &[u8], size: usize) -> io::Result<()> {
+    for piece in line.chunks(size.max(1)) {
+        run.too_long(to, 0, Err(Refusal::PieceTooLong))?;
+        run.close_without_out(to)?;
+        let n = run.out_for(piece.len(), 1);
+        run.piece(to, piece, n, Err(Refusal::PieceOutputTooSmall))?;
+        let n = run.out_for(piece.len(), 0);
+        run.piece(to, piece, n, Ok(()))?;
     }
-    Ok(run)
+    Ok(())
 }
 
 // The close, after one for which the output is a byte too small; then calls on the closed reader.
-fn closed(to: &mut impl Write, run: Run) -> io::Result<Run> {
-    let run = run::close_without_out(to, run)?;
-    let run = run::close(to, run, run::out_for(run, 0, 0), 0)?;
-    let run = run::piece(to, run, b"$", 1, 2)?;
-    let run = run::too_long(to, run, 0, 2)?;
-    run::close(to, run, 0, 2)
+fn close(to: &mut impl Write, run: &mut Run) -> io::Result<()> {
+    run.close_without_out(to)?;
+    let n = run.out_for(0, 0);
+    run.close(to, n, Ok(()))?;
+    run.piece(to, b"$", 1, Err(Refusal::Closed))?;
+    run.too_long(to, 0, Err(Refusal::Closed))?;
+    run.close(to, 0, Err(Refusal::Closed))
 }
 
 // Prints the numbers of the refusals that were given, and not how often, since refusals 1 and 4 are given with each piece.
-fn refusals(to: &mut impl Write, answers: [u32; 12], wrong: u32) -> io::Result<()> {
+fn refusals(to: &mut impl Write, run: &Run) -> io::Result<()> {
     write(to, b"refused")?;
-    for k in 1..12 {
-        if 0 < answers[k] {
-            write_u64(to, b" ", k as u64)?;
+    for (number, count) in run.answers.iter().enumerate().skip(1) {
+        if 0 < *count {
+            write_value(to, b" ", number)?;
         }
     }
-    if 0 < wrong {
+    if 0 < run.wrong {
         write(to, b", and calls that went otherwise than expected")?;
     }
     write(to, b"\n")
@@ -67,19 +54,19 @@ fn refusals(to: &mut impl Write, answers: [u32; 12], wrong: u32) -> io::Result<(
 
 // Feeds the line in pieces of one size, and answers the hash of all that came of it.
 fn one_size(to: &mut impl Write, format: u32, line: &[u8], size: usize) -> io::Result<u64> {
-    write_u64(to, b"format ", format as u64)?;
-    write_u64(to, b", pieces of ", size as u64)?;
+    write_value(to, b"format ", format)?;
+    write_value(to, b", pieces of ", size)?;
     write(to, b"\n")?;
-    let run = run::unknown(to)?;
-    let run = crafted::refused(to, run, format)?;
-    let run = run::too_long(to, run::opened(run, format), run::MAX_OUTPUT, 1)?;
-    let run = fed(to, run, line, size)?;
-    let run = run::reported(to, run, b"pieces")?;
-    let run = run::too_long(to, run, run::MAX_OUTPUT, 1)?;
-    let run = closed(to, run)?;
-    let run = run::reported(to, run, b"close")?;
-    let answers = run.answers;
-    refusals(to, answers, run.wrong)?;
+    let mut run = Run::unknown(to)?;
+    crafted::refused(to, &mut run, format)?;
+    run.open(format);
+    run.too_long(to, run::MAX_OUTPUT, Err(Refusal::PieceTooLong))?;
+    feed(to, &mut run, line, size)?;
+    run.report(to, b"pieces")?;
+    run.too_long(to, run::MAX_OUTPUT, Err(Refusal::PieceTooLong))?;
+    close(to, &mut run)?;
+    run.report(to, b"close")?;
+    refusals(to, &run)?;
     Ok(run.hash)
 }
 
@@ -92,7 +79,7 @@ fn all_sizes(to: &mut impl Write, format: u32, line: &[u8]) -> io::Result<()> {
             all = false;
         }
     }
-    write_u64(to, b"format ", format as u64)?;
+    write_value(to, b"format ", format)?;
     if all {
         write(to, b": same\n")
     } else {
@@ -100,21 +87,15 @@ fn all_sizes(to: &mut impl Write, format: u32, line: &[u8]) -> io::Result<()> {
     }
 }
 
-// The capture that is the first n bytes of line.
-fn capture(to: &mut impl Write, format: u32, line: Line, n: usize) -> io::Result<()> {
-    if n <= line.len() {
-        all_sizes(to, format, &line[0..n])?;
-    }
-    Ok(())
-}
-
 fn main(rt: HostRuntime) -> io::Result<()> {
     let mut to = rt.stdout();
-    let mut line: Line = [0; 4600];
-    let n = captures::mgl(&mut line);
-    capture(&mut to, 1, line, n)?;
-    let n = captures::onflight(&mut line);
-    capture(&mut to, 2, line, n)?;
-    let n = captures::nmea(&mut line);
-    capture(&mut to, 3, line, n)
+    let mut line = Capture::new();
+    captures::mgl(&mut line);
+    all_sizes(&mut to, 1, line.bytes())?;
+    let mut line = Capture::new();
+    captures::onflight(&mut line);
+    all_sizes(&mut to, 2, line.bytes())?;
+    let mut line = Capture::new();
+    captures::nmea(&mut line);
+    all_sizes(&mut to, 3, line.bytes())
 }

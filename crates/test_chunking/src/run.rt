@@ -4,10 +4,15 @@ ghost use Rattle.reader.specs.State.{held_length};
 ghost use Rattle.reader.specs.Refusal.{longest_piece};
 
 use super::print;
-use reader::{Outcome, Reader};
+use answer::Refusal;
+use framing::Format;
+use reader::Reader;
 use std::io;
 use std::io::Write;
-use test_print::{write, write_u64};
+use test_print::{write, write_value};
+
+// What a call is expected to answer.
+pub(crate) type Expected = Result<(), Refusal>;
 
 // A reader after some calls.
 #[derive(Clone, Copy)]
@@ -34,14 +39,10 @@ fn hashed(hash: u64, n: u64) -> u64 {
     hash % 0xFFFF_FFFB * 257 + n % 0xFFFF_FFFB
 }
 
-fn wide(b: u8) -> u64 {
-    b as u64
-}
-
 fn hashed_all(hash: u64, bytes: &[u8]) -> u64 {
     let mut h = hash;
     for byte in bytes {
-        h = hashed(h, wide(*byte));
+        h = hashed(h, u64::from(*byte));
     }
     h
 }
@@ -51,221 +52,161 @@ fn is_marked(out: &[u8]) -> bool {
     out.iter().all(|byte| *byte == MARK)
 }
 
-fn is_equal(a: &[u8; Reader::HELD], b: &[u8; Reader::HELD]) -> bool {
-    a == b
-}
-
-fn is_same(a: Reader, b: Reader) -> bool {
-    let x = a.held;
-    let y = b.held;
-    if a.format != b.format {
-        return false;
-    }
-    if a.closed != b.closed {
-        return false;
-    }
-    if a.framed != b.framed {
-        return false;
-    }
-    if a.skipped != b.skipped {
-        return false;
-    }
-    if a.pending != b.pending {
-        return false;
-    }
-    is_equal(&x, &y)
-}
-
-// Whether a call went as expected. Rest is the output past what was handed out; a refusal changes nothing.
-fn is_right(before: Reader, o: Outcome, rest: &[u8], expected: u32) -> bool {
-    if o.answer != expected {
-        return false;
-    }
-    if !is_marked(rest) {
-        return false;
-    }
-    if expected == 0 {
-        return true;
-    }
-    if o.frames != 0 {
-        return false;
-    }
-    let after = o.reader;
-    is_same(before, after)
-}
-
-// Counts an answer.
-fn noted(run: Run, answer: u32, right: bool) -> Run {
-    let mut run = run;
-    let k = answer as usize;
-    if right {
-        if k < 12 {
-            let mut answers = run.answers;
-            answers[k] = answers[k].wrapping_add(1);
-            run.answers = answers;
-            return run;
-        }
-    }
-    run.wrong = run.wrong.wrapping_add(1);
-    run
-}
-
 // How many bytes of its output a call handed out: as many as framed grew by.
 fn handed_out(before: u32, after: u32, out: usize) -> usize
     ensures { result ≤ out }
 {
-    if after < before {
-        return 0;
+    match after.checked_sub(before) {
+        Some(n) if n as usize <= out => n as usize,
+        _ => 0,
     }
-    let n = (after - before) as usize;
-    if n <= out { n } else { 0 }
-}
-
-// The run after a call; its frames are printed.
-fn after(to: &mut impl Write, run: Run, o: Outcome, out: &[u8], expected: u32) -> io::Result<Run> {
-    let before = run.reader;
-    let reader = o.reader;
-    let n = handed_out(before.framed, reader.framed, out.len());
-    let right = is_right(before, o, &out[n..], expected);
-    print::frames(to, reader.format, &out[0..n])?;
-    let run = noted(run, o.answer, right);
-    let answers = run.answers;
-    Ok(Run {
-        reader: reader,
-        frames: run.frames.wrapping_add(u64::from(o.frames)),
-        hash: hashed_all(run.hash, &out[0..n]),
-        answers: answers,
-        wrong: run.wrong,
-    })
-}
-
-fn piece_in(
-    to: &mut impl Write,
-    run: Run,
-    bytes: &[u8],
-    out: &mut [u8],
-    expected: u32,
-) -> io::Result<Run> {
-    let reader = run.reader;
-    let o = reader.piece(bytes, out);
-    after(to, run, o, out, expected)
-}
-
-fn close_in(to: &mut impl Write, run: Run, out: &mut [u8], expected: u32) -> io::Result<Run> {
-    let reader = run.reader;
-    let o = reader.close(out);
-    after(to, run, o, out, expected)
-}
-
-// A piece, with an output of n bytes.
-pub(crate) fn piece(
-    to: &mut impl Write,
-    run: Run,
-    bytes: &[u8],
-    n: usize,
-    expected: u32,
-) -> io::Result<Run>
-    requires { n ≤ held_length + longest_piece + 1 }
-{
-    let mut out = [MARK; MAX_OUTPUT];
-    piece_in(to, run, bytes, &mut out[0..n], expected)
-}
-
-// A close, with an output of n bytes.
-pub(crate) fn close(to: &mut impl Write, run: Run, n: usize, expected: u32) -> io::Result<Run>
-    requires { n ≤ held_length + longest_piece + 1 }
-{
-    let mut out = [MARK; MAX_OUTPUT];
-    close_in(to, run, &mut out[0..n], expected)
-}
-
-// A piece that is too long by a byte, with an output of n bytes.
-pub(crate) fn too_long(to: &mut impl Write, run: Run, n: usize, expected: u32) -> io::Result<Run>
-    requires { n ≤ held_length + longest_piece + 1 }
-{
-    let zeros = [0u8; TOO_LONG];
-    piece(to, run, &zeros, n, expected)
-}
-
-// The smallest output for a call with n bytes, or so many bytes less.
-pub(crate) fn out_for(run: Run, n: usize, less: usize) -> usize
-    ensures { result ≤ held_length + longest_piece + 1 }
-{
-    if TOO_LONG < n {
-        return 0;
-    }
-    let need = run.reader.pending as usize + n;
-    if need < less {
-        return 0;
-    }
-    if need - less <= MAX_OUTPUT {
-        need - less
-    } else {
-        MAX_OUTPUT
-    }
-}
-
-// A close for which the output is a byte too small. With nothing pending no output is, and there is no call.
-pub(crate) fn close_without_out(to: &mut impl Write, run: Run) -> io::Result<Run> {
-    if run.reader.pending == 0 {
-        return Ok(run);
-    }
-    close(to, run, out_for(run, 0, 1), 4)
 }
 
 // The reader that a refused fresh request hands back.
-fn refused_reader() -> Reader {
-    Reader {
-        format: 0,
-        closed: true,
-        framed: 0,
-        skipped: 0,
-        pending: 0,
-        held: [0; Reader::HELD],
+const REFUSED: Reader = Reader {
+    format: 0,
+    closed: true,
+    framed: 0,
+    skipped: 0,
+    pending: 0,
+    held: [0; Reader::HELD],
+};
+
+impl Run {
+    // A run that starts with a request for format 4, and calls on the reader that this hands back.
+    pub(crate) fn unknown(to: &mut impl Write) -> io::Result<Run> {
+        let opening = Reader::fresh(4);
+        let expected = Err(Refusal::BrokenReader);
+        let mut run = Run {
+            reader: opening.reader,
+            frames: 0,
+            hash: 0,
+            answers: [0; 12],
+            wrong: 0,
+        };
+        let right = opening.answer == expected && opening.reader == REFUSED;
+        run.note(opening.answer, right);
+        run.piece(to, b"$", 1, expected)?;
+        run.close(to, 0, expected)?;
+        Ok(run)
     }
-}
 
-// A run that starts with a request for format 4, and calls on the reader that this hands back.
-pub(crate) fn unknown(to: &mut impl Write) -> io::Result<Run> {
-    let opening = Reader::fresh(4);
-    let reader = opening.reader;
-    let right = opening.answer == 11 && is_same(reader, refused_reader());
-    let run = Run {
-        reader: reader,
-        frames: 0,
-        hash: 0,
-        answers: [0; 12],
-        wrong: 0,
-    };
-    let run = noted(run, opening.answer, right);
-    let run = piece(to, run, b"$", 1, 11)?;
-    close(to, run, 0, 11)
-}
+    // The run goes on with a fresh reader of the format.
+    pub(crate) fn open(&mut self, format: u32) {
+        let opening = Reader::fresh(format);
+        self.note(opening.answer, opening.answer.is_ok());
+        self.reader = opening.reader;
+    }
 
-// The run goes on with a fresh reader of the format.
-pub(crate) fn opened(run: Run, format: u32) -> Run {
-    let opening = Reader::fresh(format);
-    let reader = opening.reader;
-    let mut run = noted(run, opening.answer, opening.answer == 0);
-    run.reader = reader;
-    run
-}
+    // Counts an answer, where it is right.
+    fn note(&mut self, answer: Expected, right: bool) {
+        let number = match answer {
+            Ok(()) => 0,
+            Err(refusal) => u32::from(refusal),
+        };
+        match self.answers.get_mut(number as usize) {
+            Some(count) if right => *count = count.wrapping_add(1),
+            _ => self.wrong = self.wrong.wrapping_add(1),
+        }
+    }
 
-// Prints the counts, and takes them into the hash.
-pub(crate) fn reported(to: &mut impl Write, run: Run, when: &[u8]) -> io::Result<Run> {
-    let mut run = run;
-    let framed = run.reader.framed as u64;
-    let skipped = run.reader.skipped as u64;
-    let pending = run.reader.pending as u64;
-    write(to, when)?;
-    write_u64(to, b": frames ", run.frames)?;
-    write_u64(to, b", framed ", framed)?;
-    write_u64(to, b", skipped ", skipped)?;
-    write_u64(to, b", pending ", pending)?;
-    write(to, b"\n")?;
-    run.hash = hashed(
-        hashed(hashed(hashed(run.hash, run.frames), framed), skipped),
-        pending,
-    );
-    Ok(run)
+    // Notes a call that is over; its frames are printed. What is behind them in the output is as it was lent, and a refusal changes
+    // nothing.
+    fn after(
+        &mut self,
+        to: &mut impl Write,
+        before: Reader,
+        answer: Result<u32, Refusal>,
+        out: &[u8],
+        expected: Expected,
+    ) -> io::Result<()> {
+        let n = handed_out(before.framed, self.reader.framed, out.len());
+        let right = match answer {
+            Ok(_) => expected.is_ok(),
+            Err(refusal) => expected == Err(refusal) && before == self.reader,
+        };
+        print::frames(to, Format::from(self.reader.format), &out[..n])?;
+        self.note(answer.map(|_| ()), right && is_marked(&out[n..]));
+        self.frames = self.frames.wrapping_add(u64::from(answer.unwrap_or(0)));
+        self.hash = hashed_all(self.hash, &out[..n]);
+        Ok(())
+    }
+
+    // A piece, with an output of n bytes.
+    pub(crate) fn piece(
+        &mut self,
+        to: &mut impl Write,
+        bytes: &[u8],
+        n: usize,
+        expected: Expected,
+    ) -> io::Result<()>
+        requires { n ≤ held_length + longest_piece + 1 }
+    {
+        let mut out = [MARK; MAX_OUTPUT];
+        let before = self.reader;
+        let answer = self.reader.piece(bytes, &mut out[..n]);
+        self.after(to, before, answer, &out[..n], expected)
+    }
+
+    // A close, with an output of n bytes.
+    pub(crate) fn close(
+        &mut self,
+        to: &mut impl Write,
+        n: usize,
+        expected: Expected,
+    ) -> io::Result<()>
+        requires { n ≤ held_length + longest_piece + 1 }
+    {
+        let mut out = [MARK; MAX_OUTPUT];
+        let before = self.reader;
+        let answer = self.reader.close(&mut out[..n]);
+        self.after(to, before, answer, &out[..n], expected)
+    }
+
+    // A piece that is too long by a byte, with an output of n bytes.
+    pub(crate) fn too_long(
+        &mut self,
+        to: &mut impl Write,
+        n: usize,
+        expected: Expected,
+    ) -> io::Result<()>
+        requires { n ≤ held_length + longest_piece + 1 }
+    {
+        self.piece(to, &[0; TOO_LONG], n, expected)
+    }
+
+    // The smallest output for a call with n bytes, or so many bytes less.
+    pub(crate) fn out_for(&self, n: usize, less: usize) -> usize
+        ensures { result ≤ held_length + longest_piece + 1 }
+    {
+        (self.reader.pending as usize)
+            .saturating_add(n)
+            .saturating_sub(less)
+            .min(MAX_OUTPUT)
+    }
+
+    // A close for which the output is a byte too small. With nothing pending no output is, and there is no call.
+    pub(crate) fn close_without_out(&mut self, to: &mut impl Write) -> io::Result<()> {
+        if self.reader.pending == 0 {
+            return Ok(());
+        }
+        let n = self.out_for(0, 1);
+        self.close(to, n, Err(Refusal::PieceOutputTooSmall))
+    }
+
+    // Prints the counts, and takes them into the hash.
+    pub(crate) fn report(&mut self, to: &mut impl Write, when: &[u8]) -> io::Result<()> {
+        let framed = u64::from(self.reader.framed);
+        let skipped = u64::from(self.reader.skipped);
+        let pending = u64::from(self.reader.pending);
+        write(to, when)?;
+        write_value(to, b": frames ", self.frames)?;
+        write_value(to, b", framed ", framed)?;
+        write_value(to, b", skipped ", skipped)?;
+        write_value(to, b", pending ", pending)?;
+        for n in [self.frames, framed, skipped, pending] {
+            self.hash = hashed(self.hash, n);
+        }
+        write(to, b"\n")
+    }
 }

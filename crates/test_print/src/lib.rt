@@ -3,7 +3,7 @@
 
 pub mod answers;
 
-use numbers::hex_digit;
+use std::fmt::Display;
 use std::io;
 use std::io::Write;
 
@@ -23,38 +23,15 @@ pub fn write_units<W: Write>(to: &mut W, label: &[u8], n: i64, unit: u64) -> io:
     write!(to, "{}", n.unsigned_abs() / unit)
 }
 
-pub fn write_i64<W: Write>(to: &mut W, label: &[u8], n: i64) -> io::Result<()> {
-    write_units(to, label, n, 1)
-}
-
-pub fn write_i32<W: Write>(to: &mut W, label: &[u8], n: i32) -> io::Result<()> {
-    write_i64(to, label, i64::from(n))
-}
-
-pub fn write_i16<W: Write>(to: &mut W, label: &[u8], n: i16) -> io::Result<()> {
-    write_i64(to, label, i64::from(n))
-}
-
-pub fn write_u64<W: Write>(to: &mut W, label: &[u8], n: u64) -> io::Result<()> {
+// A label, and behind it a value as it displays itself.
+pub fn write_value<W: Write, N: Display + Drop>(to: &mut W, label: &[u8], n: N) -> io::Result<()> {
     write(to, label)?;
     write!(to, "{n}")
 }
 
-pub fn write_u32<W: Write>(to: &mut W, label: &[u8], n: u32) -> io::Result<()> {
-    write_u64(to, label, u64::from(n))
-}
-
-pub fn write_u16<W: Write>(to: &mut W, label: &[u8], n: u16) -> io::Result<()> {
-    write_u64(to, label, u64::from(n))
-}
-
-pub fn write_u8<W: Write>(to: &mut W, label: &[u8], n: u8) -> io::Result<()> {
-    write_u64(to, label, u64::from(n))
-}
-
 pub fn write_hex<W: Write>(to: &mut W, bytes: &[u8]) -> io::Result<()> {
     for byte in bytes {
-        write(to, &[hex_digit(*byte / 16), hex_digit(*byte)])?;
+        write!(to, "{byte:02X}")?;
     }
     Ok(())
 }

@@ -2,7 +2,7 @@
 use calendar::{Clock, DateTime};
 use std::io;
 use std::io::Write;
-use test_print::{write, write_u8, write_u16, write_units};
+use test_print::{write, write_units, write_value};
 
 // Takes the year as the first one, so that its number is 0.
 fn day(to: &mut impl Write, year: u16, month: u8, day: u8) -> io::Result<()> {
@@ -24,9 +24,9 @@ fn day(to: &mut impl Write, year: u16, month: u8, day: u8) -> io::Result<()> {
 fn months(to: &mut impl Write, year: u16) -> io::Result<()> {
     for month in 1..=12 {
         let length = calendar::month_days(year as u32, month);
-        write_u16(to, b"days ", year)?;
-        write_u8(to, b"-", month)?;
-        write_u8(to, b" has ", length)?;
+        write_value(to, b"days ", year)?;
+        write_value(to, b"-", month)?;
+        write_value(to, b" has ", length)?;
         write(to, b", first ")?;
         day(to, year, month, 1)?;
         write(to, b", last ")?;
@@ -37,13 +37,8 @@ fn months(to: &mut impl Write, year: u16) -> io::Result<()> {
 }
 
 pub(crate) fn years(to: &mut impl Write) -> io::Result<()> {
-    months(to, 1900)?;
-    months(to, 1970)?;
-    months(to, 1999)?;
-    months(to, 2000)?;
-    months(to, 2023)?;
-    months(to, 2024)?;
-    months(to, 2100)?;
-    months(to, 2225)?;
+    for year in [1900, 1970, 1999, 2000, 2023, 2024, 2100, 2225] {
+        months(to, year)?;
+    }
     Ok(())
 }

@@ -4,14 +4,12 @@
 
 mod days;
 mod fields;
-mod words;
 
-use framing::Found;
+use framing::{Format, Found};
 use numbers::hex_digit;
 use std::io;
 use std::io::Write;
-use test_print::{write, write_hex, write_u64};
-use words::{write_half, write_word};
+use test_print::{write, write_hex, write_value};
 
 fn write_verdict(to: &mut impl Write, same: bool) -> io::Result<()> {
     if same {
@@ -27,12 +25,12 @@ fn crc(to: &mut impl Write, text: &[u8], published: u32) -> io::Result<()> {
     write(to, b"crc32 '")?;
     write(to, text)?;
     write(to, b"' published ")?;
-    write_word(to, published)?;
+    write!(to, "{published:08X}")?;
     write(to, b", computed ")?;
-    write_word(to, computed)?;
+    write!(to, "{computed:08X}")?;
     write_verdict(to, published == computed)?;
     write(to, b", by slicing ")?;
-    write_word(to, sliced)?;
+    write!(to, "{sliced:08X}")?;
     write_verdict(to, published == sliced)?;
     write(to, b"\n")
 }
@@ -40,13 +38,13 @@ fn crc(to: &mut impl Write, text: &[u8], published: u32) -> io::Result<()> {
 // The published number has the weighted sum in its high byte.
 fn fletcher(to: &mut impl Write, text: &[u8], published: u32) -> io::Result<()> {
     let sums = checksum::fletcher16(text);
-    let computed = sums.weighted as u32 * 256 + sums.plain as u32;
+    let computed = u32::from(sums.weighted) * 256 + u32::from(sums.plain);
     write(to, b"fletcher16 '")?;
     write(to, text)?;
     write(to, b"' published ")?;
-    write_half(to, published)?;
+    write!(to, "{published:04X}")?;
     write(to, b", computed ")?;
-    write_half(to, computed)?;
+    write!(to, "{computed:04X}")?;
     write_verdict(to, published == computed)?;
     write(to, b"\n")
 }
@@ -68,9 +66,9 @@ fn sentence(to: &mut impl Write, line: &[u8]) -> io::Result<()> {
     write(to, b", computed ")?;
     write_hex(to, &[x])?;
     write_verdict(to, high && low)?;
-    match framing::front(3, line) {
+    match framing::front(Format::Nmea, line) {
         Found::Frame(m) => {
-            write_u64(to, b", a frame of ", m as u64)?;
+            write_value(to, b", a frame of ", m)?;
             write(to, b"\n")?;
         }
         Found::Start => write(to, b", a start\n")?,

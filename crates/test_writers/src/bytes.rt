@@ -1,8 +1,10 @@
 // The bytes that a writer is given, and those that it makes in its output.
-use frame_writer::Writing;
+ghost use Rattle.std.specs.Prelude.{◌≤◌, length};
+
+use answer::Refusal;
 use std::io;
 use std::io::Write;
-use test_print::{write, write_hex, write_u32, write_u64};
+use test_print::{write, write_hex, write_value};
 
 // What an output buffer has as it is lent.
 pub(crate) const MARK: u8 = 0xEE;
@@ -16,36 +18,39 @@ pub(crate) fn count(bytes: &mut [u8], first: u8) {
     }
 }
 
-// How many bytes a writer made.
-fn length(writing: Writing) -> usize {
-    match writing {
-        Writing::Written(n) => n,
-        Writing::Refused(_) => 0,
-    }
+// How many bytes of its output a writer made.
+fn length(writing: Result<usize, Refusal>, out: &[u8]) -> usize
+    ensures { result ≤ length out.now }
+{
+    writing.unwrap_or(0).min(out.len())
 }
 
 // The bytes that a writer made, from the start of its output.
-pub(crate) fn made(writing: Writing, out: &[u8]) -> &[u8] {
-    let n = length(writing);
-    if n <= out.len() { &out[0..n] } else { out }
+pub(crate) fn made(writing: Result<usize, Refusal>, out: &[u8]) -> &[u8] {
+    let n = length(writing, out);
+    &out[..n]
 }
 
 // The output behind them.
-fn behind(writing: Writing, out: &[u8]) -> &[u8] {
-    let n = length(writing);
-    if n <= out.len() { &out[n..] } else { out }
+fn behind(writing: Result<usize, Refusal>, out: &[u8]) -> &[u8] {
+    let n = length(writing, out);
+    &out[n..]
 }
 
 // What a writer answered.
-pub(crate) fn answer(to: &mut impl Write, writing: Writing) -> io::Result<()> {
+pub(crate) fn answer(to: &mut impl Write, writing: Result<usize, Refusal>) -> io::Result<()> {
     match writing {
-        Writing::Written(n) => write_u64(to, b"written ", n as u64),
-        Writing::Refused(r) => write_u32(to, b"refused ", answer::refusal_number(r)),
+        Ok(n) => write_value(to, b"written ", n),
+        Err(refusal) => write_value(to, b"", refusal),
     }
 }
 
 // What a writer answered, the bytes that it made, and the output behind them.
-pub(crate) fn shown(to: &mut impl Write, writing: Writing, out: &[u8]) -> io::Result<()> {
+pub(crate) fn shown(
+    to: &mut impl Write,
+    writing: Result<usize, Refusal>,
+    out: &[u8],
+) -> io::Result<()> {
     answer(to, writing)?;
     write(to, b"\nframe ")?;
     write_hex(to, made(writing, out))?;

@@ -1,17 +1,16 @@
 // Gyro numbers, written and read back.
-use mgl_gyro::GyroWriting;
 use std::io;
 use std::io::Write;
-use test_print::{answers, write, write_i16, write_i32};
+use test_print::{answers, write, write_value};
 
 fn trip(to: &mut impl Write, rate: i32) -> io::Result<()> {
-    write_i32(to, b"rate ", rate)?;
+    write_value(to, b"rate ", rate)?;
     match mgl_gyro::write(rate) {
-        GyroWriting::Number(v) => {
-            write_i16(to, b" number ", v)?;
-            write_i32(to, b" rate ", mgl_gyro::hundredths(v))?;
+        Ok(v) => {
+            write_value(to, b" number ", v)?;
+            write_value(to, b" rate ", mgl_gyro::hundredths(v))?;
         }
-        GyroWriting::Refused(r) => answers::refused(to, b" ", r)?,
+        Err(r) => answers::refused(to, b" ", r)?,
     }
     write(to, b"\n")
 }

@@ -3,13 +3,13 @@ use super::bytes::MARK;
 use super::{bytes, nmea_trips};
 use std::io;
 use std::io::Write;
-use test_print::{write, write_u32};
+use test_print::{write, write_value};
 
 fn value(to: &mut impl Write, label: &[u8], parameter: u8, steps: u32) -> io::Result<()> {
     let mut out = [MARK; 28];
     let setting = nmea_trips::of(b'H', parameter, steps);
     let writing = nmea_plars_writer::write_setting(setting, &mut out);
-    write_u32(to, label, steps)?;
+    write_value(to, label, steps)?;
     write(to, b": ")?;
     bytes::answer(to, writing)?;
     write(to, b", ")?;

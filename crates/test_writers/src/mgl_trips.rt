@@ -1,6 +1,7 @@
 // MGL frames, written and read back.
 use super::bytes;
 use super::bytes::MARK;
+use framing::Format;
 use mgl::Header;
 use std::io;
 use std::io::Write;
@@ -28,7 +29,7 @@ fn message(to: &mut impl Write) -> io::Result<()> {
     let frame = bytes::made(writing, &out);
     answers::header(to, mgl::read_header(frame))?;
     write(to, b"body ")?;
-    write_hex(to, content::body(1, frame))?;
+    write_hex(to, content::body(Format::Mgl, frame))?;
     write(to, b"\n")?;
     answers::clock(to, b"clock ", mgl::clock::read_clock(frame))
 }
@@ -46,7 +47,7 @@ fn longest(to: &mut impl Write) -> io::Result<()> {
     write(to, b"\n")?;
     answers::header(to, mgl::read_header(frame))?;
     write(to, b"body ")?;
-    write_ends(to, content::body(1, frame))?;
+    write_ends(to, content::body(Format::Mgl, frame))?;
     write(to, b"\n")
 }
 

@@ -1,10 +1,11 @@
 // Sentences and settings, written and read back.
 use super::bytes;
 use super::bytes::MARK;
-use nmea_plars::{Setting, SettingResult};
+use framing::Format;
+use nmea_plars::Setting;
 use std::io;
 use std::io::Write;
-use test_print::{answers, write, write_u8, write_u32};
+use test_print::{answers, write, write_value};
 
 // A sentence as text, without its CR and LF.
 pub(crate) fn text(to: &mut impl Write, frame: &[u8]) -> io::Result<()> {
@@ -26,7 +27,7 @@ fn sentence(to: &mut impl Write, body: &[u8]) -> io::Result<()> {
     let frame = bytes::made(writing, &out);
     text(to, frame)?;
     write(to, b"body ")?;
-    write(to, content::body(3, frame))?;
+    write(to, content::body(Format::Nmea, frame))?;
     write(to, b"\n")
 }
 
@@ -38,18 +39,19 @@ fn setting(to: &mut impl Write, label: &[u8], given: Setting) -> io::Result<()> 
     let frame = bytes::made(writing, &out);
     text(to, frame)?;
     match nmea_plars::read_setting(frame) {
-        SettingResult::Read(x) => {
+        Ok(x) => {
             write(to, b"source ")?;
             write(to, &[x.source])?;
-            write_u8(to, b" parameter ", x.parameter)?;
-            write_u32(to, b" value ", x.value)?;
+            write_value(to, b" parameter ", x.parameter)?;
+            write_value(to, b" value ", x.value)?;
         }
-        SettingResult::Refused(r) => answers::refused(to, b"setting ", r)?,
+        Err(r) => answers::refused(to, b"setting ", r)?,
     }
     write(to, b"\n")
 }
 
 // A setting of a parameter, by its number.
+// Kept: numbers, here and in limits.rt: `write_setting` is given those that it refuses too.
 pub(crate) fn of(source: u8, parameter: u8, value: u32) -> Setting {
     Setting {
         source,

@@ -1,6 +1,7 @@
 // An OnFlight frame, written and read back.
 use super::bytes;
 use super::bytes::MARK;
+use framing::Format;
 use std::io;
 use std::io::Write;
 use test_print::{write, write_hex};
@@ -13,6 +14,9 @@ pub(crate) fn trips(to: &mut impl Write) -> io::Result<()> {
     let writing = frame_writer::write_onflight(&payload, &mut out);
     bytes::shown(to, writing, &out)?;
     write(to, b"payload ")?;
-    write_hex(to, content::body(2, bytes::made(writing, &out)))?;
+    write_hex(
+        to,
+        content::body(Format::Onflight, bytes::made(writing, &out)),
+    )?;
     write(to, b"\n")
 }

@@ -1,13 +1,18 @@
 // What the writers refuse, and that the output is then as it was lent.
 use super::bytes::MARK;
 use super::{bytes, mgl_trips, nmea_trips};
-use frame_writer::Writing;
+use answer::Refusal;
 use nmea_plars::Setting;
 use std::io;
 use std::io::Write;
 use test_print::{write, write_ends};
 
-fn refusal(to: &mut impl Write, label: &[u8], writing: Writing, out: &[u8]) -> io::Result<()> {
+fn refusal(
+    to: &mut impl Write,
+    label: &[u8],
+    writing: Result<usize, Refusal>,
+    out: &[u8],
+) -> io::Result<()> {
     write(to, label)?;
     bytes::answer(to, writing)?;
     write(to, b", room [")?;
@@ -37,6 +42,7 @@ fn plars(to: &mut impl Write, label: &[u8], setting: Setting, out: &mut [u8]) ->
 
 fn of_mgl(to: &mut impl Write) -> io::Result<()> {
     write(to, b"MGL, refused\n")?;
+    // Kept: an array: the bodies are parts of it, of lengths that are written out.
     let mut body = [0; 268];
     bytes::count(&mut body, 0);
     let mut out = [MARK; 280];

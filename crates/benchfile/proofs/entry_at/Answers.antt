@@ -6,4 +6,4 @@ use Rattle.benchfile.proofs.entry_at.Goals as goal
 pub returns : goal.returns
 unfolding entry_at
 returns c = let a = c.args in
-    rw (← c.entry_start.ensures, ← c.u32_at.ensures, ← c.byte_at-2.ensures, ← add-zero (1 + 6 * a.i), ← c.byte_at.ensures)
+    rw (c.entry_start.ensures, c.at.ensures, c.byte_at-2.ensures, c.byte_at.ensures, c.from.ensures, add-zero (1 + 6 * a.i))

@@ -9,4 +9,4 @@ returns-then-not-is_toc c = search answers
 
 pub returns : goal.returns
 unfolding file_length_of
-returns c = let t = length-is _ c.byte_at.ensures c.entry_start.ensures in search answers
+returns c = let t = length-is _ c.entries.ensures c.entry_start.ensures in search answers

@@ -7,10 +7,7 @@ use Rattle.benchfile.proofs.total_length.Goals as goal
 
 pub loop-k-init : goal.loop-k-init
 unfolding total_length
-loop-k-init c = (search rules, refl, search rules)
+loop-k-init c = (refl, search rules)
 
 pub loop-k-preserved : goal.loop-k-preserved
-unfolding total_length
-loop-k-preserved c = let l = c.loop-k in
-    let a = c.args in
-    (search rules, omega (arith, total-length-next a.s.now l.k), omega arith)
+loop-k-preserved c = (rw (c.from-sum.ensures, c.at.ensures, c.from.ensures, c.loop-k.invariant.0, total-length-next c.args.s.now c.loop-k.k), omega arith)

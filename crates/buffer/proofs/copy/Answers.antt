@@ -1,12 +1,14 @@
 use borrow.Author.Tests.{leb-true, leb-false}
-use mathlib.Core.Path.{◌∙◌, sym}
+use mathlib.Core.Path.{refl, sym, ◌∙◌}
+use native.Mathlib.Omega.{arith}
+use Rattle.std.proofs.lemmas.Slice.{put_mid-paste}
 use Rattle.buffer.proofs.BufferLaws.{copied-fits, copied_none}
 use Rattle.buffer.proofs.copy.Goals as goal
 
-pub returns-then-not-fits : goal.returns-then-not-fits
-returns-then-not-fits c = copied_none _ _ _ (leb-false _ _ (sym c.fits.ensures ∙ c.if-not-fits.true))
+pub returns-then-fits : goal.returns-then-fits
+returns-then-fits c =
+    put_mid-paste _ _ _ _ _ _ c.copy_from_slice.ensures.after (omega arith) refl
+    ∙ copied-fits c.args.bytes.now _ _ (leb-true _ _ (sym c.fits.ensures ∙ c.if-fits.true))
 
-pub returns : goal.returns
-returns c = let a = c.args in
-    let fits = leb-true _ _ (sym c.fits.ensures ∙ c.if-not-fits.false) in
-    c.copy_at.ensures ∙ copied-fits a.bytes.now a.out.now a.at fits
+pub returns-else-fits : goal.returns-else-fits
+returns-else-fits c = copied_none _ _ _ (leb-false _ _ (sym c.fits.ensures ∙ c.if-fits.false))

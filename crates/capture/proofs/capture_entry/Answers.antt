@@ -9,14 +9,14 @@ use Rattle.capture.specs.Entry.{entry_in}
 use Rattle.capture.proofs.EntryLaws.{read_fits, listed-refused}
 use Rattle.capture.proofs.capture_entry.Goals as goal
 
-pub overflow_cast-e-in-Read-3 : goal.overflow_cast-e-in-Read-3
+pub overflow_cast-e-in-Ok-3 : goal.overflow_cast-e-in-Ok-3
 unfolding entry_in
-overflow_cast-e-in-Read-3 c = record { sfits = read_fits _ c.shared_slice_known-1.given _ _ c.in-Read.is c.read_entry.ensures }
+overflow_cast-e-in-Ok-3 c = record { sfits = read_fits _ c.type_inv.first _ _ c.in-Ok.is c.read_entry.ensures }
 
-pub returns-in-Read : goal.returns-in-Read
+pub returns-in-Ok : goal.returns-in-Ok
 unfolding entry_in
-returns-in-Read c = rw (← c.entries.ensures, ← c.read_entry.ensures, c.in-Read.is) (same_row c.row.ensures (unsigned (omega arith)) (unsigned (omega arith)) (unsigned (omega arith)) (unsigned (omega arith)) (unsigned (read_fits _ c.shared_slice_known-1.given _ _ c.in-Read.is c.read_entry.ensures)) refl)
+returns-in-Ok c = rw (← c.entries.ensures, ← c.read_entry.ensures, c.in-Ok.is) (same_row c.row.ensures (unsigned (omega arith)) (unsigned (omega arith)) (unsigned (omega arith)) (unsigned (omega arith)) (unsigned (read_fits _ c.type_inv.first _ _ c.in-Ok.is c.read_entry.ensures)) refl)
 
-pub returns-in-Refused : goal.returns-in-Refused
+pub returns-in-Err : goal.returns-in-Err
 unfolding entry_in
-returns-in-Refused c = let a = c.args in rw (← c.read_entry.ensures, c.in-Refused.is) (c.row-in-Refused.ensures ∙ ap (λ (n : ℕ). numbered n []) c.refusal_number.ensures ∙ listed-refused (entry_count_of a.first.now a.file_len).value c.in-Refused.r)
+returns-in-Err c = let a = c.args in rw (← c.read_entry.ensures, c.in-Err.is) (c.row-in-Err.ensures ∙ ap (λ (n : ℕ). numbered n []) c.from.ensures ∙ listed-refused (entry_count_of a.first.now a.file_len).value c.in-Err.refusal)

@@ -13,4 +13,4 @@ returns-in-215 c = rw c.in-215.is (cc)
 
 pub returns-in_default : goal.returns-in_default
 unfolding of_int of_bits ratio_of
-returns-in_default c = rw (ne_eqb _ _ c.in_default.in_default-own.rest.0.1, ne_eqb _ _ c.in_default.in_default-own.rest.1, c.refusal_number.ensures)
+returns-in_default c = rw (ne_eqb _ _ c.in_default.in_default-own.rest.0.1, ne_eqb _ _ c.in_default.in_default-own.rest.1) (cc)

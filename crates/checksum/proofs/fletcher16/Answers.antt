@@ -1,4 +1,4 @@
-use Rattle.std.proofs.Common.{◌≡◌, ℕ, ◌+◌, ◌%◌, ◌<◌, ◌≤◌, List, length, get_or, sym, refl, ◌∙◌, ap₂, add-one, arith, drop_of_length-le, drop-cons}
+use Rattle.std.proofs.Common.{◌≡◌, ℕ, ◌+◌, ◌%◌, ◌<◌, ◌≤◌, List, length, get_or, sym, refl, ◌∙◌, ap₂, add-one, drop_of_length-le, drop-cons}
 use native.Mathlib.Nat.{mod-add-mod, add-mod-mod}
 use Rattle.checksum.specs.declared.Sums.{Sums}
 use Rattle.checksum.specs.Fletcher.{add_mod255, sum_mod255, plain_sums, fletcher_of}
@@ -27,23 +27,23 @@ weighted-mod : (b a : ℕ) → add_mod255 b (a % 255) ≡ add_mod255 b a
 unfolding add_mod255
 weighted-mod b a = add-mod-mod b a 255
 
-pub loop-i-init : goal.loop-i-init
+pub loop-x-init : goal.loop-x-init
 unfolding sum_mod255 weighted-left fletcher_of
-loop-i-init c = (omega arith, refl, refl)
+loop-x-init c = record { plain = refl; weighted = refl }
 
-pub loop-i-preserved : goal.loop-i-preserved
+pub loop-x-preserved : goal.loop-x-preserved
 unfolding sum_mod255 weighted-left fletcher_of
-loop-i-preserved c =
-    let l = c.loop-i in
-    let plain = add-mod255 c.add_around-a.result l.a (get_or c.args.s.now l.i 0) c.add_around-a.ensures in
+loop-x-preserved c =
+    let l = c.loop-x in
+    let plain = add-mod255 c.add_around-a.result l.a (get_or c.args.s.now l.x-index 0) c.add_around-a.ensures in
     let weighted : c.add_around-b.result % 255 ≡ add_mod255 (l.b % 255) (c.add_around-a.result % 255) =
-    add-mod255 _ _ _ c.add_around-b.ensures ∙ sym (weighted-mod _ _) in (
-      omega arith,
-      fold_more add_mod255 _ _ c.loop-i-test.true plain ∙ l.invariant.1,
-      rw (weighted, plain) (weighted-more _ _ _ _ c.loop-i-test.true) ∙ l.invariant.2,
-    )
+    add-mod255 _ _ _ c.add_around-b.ensures ∙ sym (weighted-mod _ _) in
+    record {
+      plain = fold_more add_mod255 _ _ c.loop-x-test.true plain ∙ l.invariant.plain;
+      weighted = rw (weighted, plain) (weighted-more _ _ _ _ c.loop-x-test.true) ∙ l.invariant.weighted;
+    }
 
 pub returns : goal.returns
 unfolding sum_mod255 weighted-left fletcher_of
-returns c = ap₂ sums (sym (fold_end add_mod255 _ _ _ c.loop-i-test.false) ∙ c.loop-i.invariant.1)
-    (sym (weighted-end _ _ _ _ c.loop-i-test.false) ∙ c.loop-i.invariant.2)
+returns c = ap₂ sums (sym (fold_end add_mod255 _ _ _ c.loop-x-test.false) ∙ c.loop-x.invariant.plain)
+    (sym (weighted-end _ _ _ _ c.loop-x-test.false) ∙ c.loop-x.invariant.weighted)

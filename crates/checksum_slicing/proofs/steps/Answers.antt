@@ -1,9 +1,18 @@
-use native.Mathlib.Omega.{arith}
-use Rattle.checksum_slicing.proofs.StepLaws.{turn, all-turns}
+use Rattle.checksum_slicing.proofs.StepLaws.{by-tables}
 use Rattle.checksum_slicing.proofs.steps.Goals as goal
 
-pub loop-j-init : goal.loop-j-init
-loop-j-init c = (omega arith, all-turns _ _ c.ranges.far.fits c.ranges.near.fits)
-
-pub loop-j-preserved : goal.loop-j-preserved
-loop-j-preserved c = (omega arith, turn _ _ _ c.loop-j-test.true c.key.ensures c.look_up.ensures c.shifted-sums.ensures c.loop-j.invariant.1)
+pub returns : goal.returns
+returns c =
+    rw (
+      c.from.ensures,
+      c.from-2.ensures,
+      c.from-3.ensures,
+      c.from-4.ensures,
+      c.from-5.ensures,
+      c.from-6.ensures,
+      c.from-7.ensures,
+      c.from-8.ensures,
+      c.to_le_bytes.ensures,
+      c.to_le_bytes-2.ensures,
+    )
+    (by-tables c.args.far c.args.near c.requires c.ranges.far.fits c.ranges.near.fits)

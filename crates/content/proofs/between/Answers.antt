@@ -1,14 +1,17 @@
 use native.Mathlib.Omega.{arith}
-use Rattle.content.proofs.BodyLaws.{head-is, tail-is, ends-fit, between-at, too_short}
+use mathlib.Core.Path.{refl, sym, ap, ◌∙◌}
+use mathlib.Core.List.{List}
+use Prim.Native.Nat.{ℕ}
+use denote.Bor.{Bor}
+use Rattle.framing.proofs.FormatLaws.{layout-some}
+use Rattle.content.proofs.BodyLaws.{between-at, all-between, part-or-none}
 use Rattle.content.proofs.between.Goals as goal
 
-pub overflow_add-start : goal.overflow_add-start
-overflow_add-start c = omega (arith, ends-fit _ c.layout_of-l.ensures)
-
-pub returns-then-s-start : goal.returns-then-s-start
-returns-then-s-start c = let l = c.layout_of-l.ensures in
-    too_short _ _ (head-is _ l) (tail-is _ l) c.if-s-start.true
+pub returns-in_default : goal.returns-in_default
+returns-in_default c = all-between _ _ c.in_default.ensures
 
 pub returns : goal.returns
-returns c = let l = c.layout_of-l.ensures in
-    between-at _ _ (head-is _ l) (tail-is _ l)
+returns c =
+    ap (λ (b : Bor (List ℕ)). b.now) c.unwrap_or.ensures
+    ∙ part-or-none (λ (b : Bor (List ℕ)). b.now) _ _ _ c.get.result _ _ refl (let z = c.saturating_sub.ensures in omega arith) c.get.ensures.lookup.0
+    ∙ (let n = layout-some _ (sym c.in-Some.ensures) in rw c.saturating_sub.ensures (between-at _ _ n.head n.tail))

@@ -1,13 +1,12 @@
-use mathlib.Core.Path.{◌∙◌}
+use mathlib.Core.Path.{◌∙◌, sym}
 use Rattle.content.specs.Body.{body_of}
-use Rattle.answer.proofs.AnswerLaws.{held, failed}
 use Rattle.content.proofs.BodyLaws.{body-between}
 use Rattle.content.proofs.body.Goals as goal
 
-pub returns-then-not-is_frame : goal.returns-then-not-is_frame
+pub returns-then-is_frame : goal.returns-then-is_frame
 unfolding body_of
-returns-then-not-is_frame c = rw (failed c.is_frame.ensures c.if-not-is_frame.true-raw)
+returns-then-is_frame c = c.between.ensures ∙ body-between _ _ (sym c.is_frame.ensures ∙ c.if-is_frame.true)
 
-pub returns : goal.returns
+pub returns-else-is_frame : goal.returns-else-is_frame
 unfolding body_of
-returns c = c.between.ensures ∙ body-between _ _ (held c.is_frame.ensures c.if-not-is_frame.false-raw)
+returns-else-is_frame c = rw (sym c.is_frame.ensures, c.if-is_frame.false)

@@ -8,7 +8,7 @@ use lib.ListN.{length}
 use Rattle.framing.specs.declared.Found.{Found}
 use Rattle.framing.specs.declared.Found.TheVariants.{Frame, Start, Neither}
 use Rattle.framing.specs.declared.frame_run.Run.{Run}
-use Rattle.framing.specs.Format.{Format}
+use Rattle.framing.specs.declared.Format.{Format}
 use Rattle.framing.specs.Frame.{front}
 use Rattle.framing.specs.FrameRun.{frame_run}
 use Rattle.framing.proofs.FrameRunLaws.{one_of, run-one}

@@ -1,20 +1,21 @@
+use mathlib.Core.Path.{◌≡◌, sym, ◌∙◌}
 use native.Mathlib.Omega.{arith}
-use Rattle.content.specs.Body.{place_of}
-use Rattle.answer.proofs.AnswerLaws.{fails, held, failed}
-use Rattle.content.proofs.BodyLaws.{body-inside, head-is, tail-is, place_at}
+use Rattle.std.specs.Prelude.{Some, None}
+use Rattle.framing.proofs.FormatLaws.{layout-some}
+use Rattle.content.proofs.BodyLaws.{tail-inside, place_at, no-frame}
+use Rattle.content.proofs.JudgeLaws.{passed}
 use Rattle.content.proofs.locate.Goals as goal
 
-pub returns-then-not-is_frame : goal.returns-then-not-is_frame
-unfolding place_of
-returns-then-not-is_frame c = fails _ (failed c.is_frame.ensures c.if-not-is_frame.true-raw)
+pub returns-in_err-l : goal.returns-in_err-l
+returns-in_err-l c = let d : c.layout_of.result ≡ None = grind arith in
+    absurd (no-frame _ _ (sym d ∙ c.layout_of.ensures) (passed _ _ c.in_ok-judge.ensures))
 
-pub overflow_sub-end : goal.overflow_sub-end
-unfolding place_of
-overflow_sub-end c = let h = held c.is_frame.ensures c.if-not-is_frame.false-raw in
-    omega (arith, tail-is _ c.layout_of-l.ensures, body-inside _ _ h)
+pub overflow_sub-result : goal.overflow_sub-result
+overflow_sub-result c = let d : c.layout_of.result ≡ Some c.in_ok-l.l = grind arith in
+    let n = layout-some _ (sym c.layout_of.ensures ∙ d) in
+    tail-inside _ _ (passed _ _ c.in_ok-judge.ensures) n.head n.tail
 
 pub returns : goal.returns
-unfolding place_of
-returns c = let h = held c.is_frame.ensures c.if-not-is_frame.false-raw in
-    let l = c.layout_of-l.ensures in
-    place_at _ _ h (head-is _ l) (tail-is _ l)
+returns c = let d : c.layout_of.result ≡ Some c.in_ok-l.l = grind arith in
+    let n = layout-some _ (sym c.layout_of.ensures ∙ d) in
+    place_at _ _ (passed _ _ c.in_ok-judge.ensures) n.head n.tail

@@ -1,12 +1,11 @@
 use native.Mathlib.Omega.{arith}
-use Rattle.decimal.proofs.DecimalLaws.{count-one, count-more, count_most}
+use Rattle.decimal.proofs.DecimalLaws.{count-one, count_most, count-least}
 use Rattle.decimal.proofs.count.Goals as goal
 
-pub overflow_add-k : goal.overflow_add-k
-overflow_add-k c = omega (arith, count_most 19 c.args.n (omega arith), count-more c.loop-rest.rest (omega arith))
+pub returns-in-Some : goal.returns-in-Some
+returns-in-Some c =
+    let s = c.in-Some in
+    omega (arith, count-least s.power c.args.n s.ensures.power_le, count_most s.power c.args.n (omega (arith, s.ensures.next_power_gt)))
 
-pub loop-rest-preserved : goal.loop-rest-preserved
-loop-rest-preserved c = omega (arith, count-more c.loop-rest.rest (omega arith))
-
-pub returns : goal.returns
-returns c = omega (arith, count-one c.loop-rest.rest (omega arith))
+pub returns-in-None : goal.returns-in-None
+returns-in-None c = omega (arith, count-one c.args.n (omega (arith, c.in-None.ensures.none)))

@@ -1,5 +1,6 @@
-use borrow.Author.Tests.{eq-eqb, ne_eqb, lt-ltb, le-ltb}
+use borrow.Author.Tests.{eq-eqb, ne_eqb}
 use mathlib.Core.Path.{sym, ◌∙◌}
+use Rattle.nmea_plars.proofs.PlarsLaws.{named, unnamed}
 use Rattle.nmea_plars.specs.Plars.{fields_setting}
 use Rattle.nmea_plars.proofs.setting_of.Goals as goal
 
@@ -11,21 +12,20 @@ pub returns-then-not-is_source : goal.returns-then-not-is_source
 unfolding fields_setting
 returns-then-not-is_source c = rw (eq-eqb _ _ c.if-source-ne1.false, sym c.is_source.ensures ∙ c.if-not-is_source.true)
 
-pub returns-then-parameter-ge4 : goal.returns-then-parameter-ge4
+pub returns-in_default : goal.returns-in_default
 unfolding fields_setting
-returns-then-parameter-ge4 c = rw (
+returns-in_default c = rw (
   eq-eqb _ _ c.if-source-ne1.false,
   sym c.is_source.ensures ∙ c.if-not-is_source.false,
-  ← c.parameter_of-parameter.ensures,
-  le-ltb _ _ c.if-parameter-ge4.true,
+  unnamed _ c.in_default.ensures,
 )
 
 pub returns : goal.returns
 unfolding fields_setting
-returns c = rw (
+returns c = let n = named _ _ c.in-Some.ensures in rw (
   eq-eqb _ _ c.if-source-ne1.false,
   sym c.is_source.ensures ∙ c.if-not-is_source.false,
-  ← c.parameter_of-parameter.ensures,
-  lt-ltb _ _ c.if-parameter-ge4.false,
+  n.0,
+  ← n.1,
 )
     c.ranged_setting.ensures

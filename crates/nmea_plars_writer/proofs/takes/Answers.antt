@@ -1,19 +1,11 @@
-use borrow.Author.Tests.{le-leb, lt-leb}
 use mathlib.Core.Path.{sym, ◌∙◌}
-use Rattle.nmea_plars.proofs.PlarsLaws.{as-ruled}
 use Rattle.nmea_plars_writer.specs.Text.{takes_setting}
 use Rattle.nmea_plars_writer.proofs.takes.Goals as goal
 
-pub returns-then-not-is_source : goal.returns-then-not-is_source
+pub returns-then-is_source : goal.returns-then-is_source
 unfolding takes_setting
-returns-then-not-is_source c = rw (sym c.is_source.ensures ∙ c.if-not-is_source.true)
+returns-then-is_source c = rw (sym c.is_source.ensures ∙ c.if-is_source.true) c.is_in_range.ensures
 
-pub returns-then-value-form : goal.returns-then-value-form
+pub returns-else-is_source : goal.returns-else-is_source
 unfolding takes_setting
-returns-then-value-form c = let r = as-ruled c.args.setting.parameter c.form_of-form.ensures in
-    rw (sym c.is_source.ensures ∙ c.if-not-is_source.false, ← r.1, lt-leb _ _ c.if-value-form.true)
-
-pub returns : goal.returns
-unfolding takes_setting
-returns c = let r = as-ruled c.args.setting.parameter c.form_of-form.ensures in
-    rw (sym c.is_source.ensures ∙ c.if-not-is_source.false, ← r.1, ← r.2, le-leb _ _ c.if-value-form.false)
+returns-else-is_source c = rw (c.if-is_source.false, sym c.is_source.ensures ∙ c.if-is_source.false)

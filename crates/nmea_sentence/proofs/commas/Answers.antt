@@ -1,15 +1,15 @@
 use native.Mathlib.Omega.{arith}
 use Rattle.nmea_sentence.proofs.FieldLaws.{count-plain, count-comma, count-done}
 use Rattle.nmea_sentence.proofs.commas.Goals as goal
-use Rattle.nmea_sentence.proofs.commas.Goals.{then-s-k-eq44, else-s-k-eq44}
+use Rattle.nmea_sentence.proofs.commas.Goals.{then-b-eq44, else-b-eq44}
 
-pub loop-k-preserved : goal.loop-k-preserved
-loop-k-preserved c = let w = c.loop-k.invariant in
-    let h = c.loop-k-test.true in
-    elim c.if-s-k-eq44.branch [
-      | then-s-k-eq44 u ↦ count-comma _ _ _ w h u.if-s-k-eq44.true _ (omega arith)
-      | else-s-k-eq44 u ↦ count-plain _ _ _ w h u.if-s-k-eq44.false _ (omega arith)
+pub loop-b-preserved : goal.loop-b-preserved
+loop-b-preserved c = let w = c.loop-b.invariant in
+    let h = c.loop-b-test.true in
+    elim c.if-b-eq44.branch [
+      | then-b-eq44 u ↦ count-comma _ _ _ w h u.if-b-eq44.true _ (omega arith)
+      | else-b-eq44 u ↦ count-plain _ _ _ w h u.if-b-eq44.false _ (omega arith)
     ]
 
 pub returns : goal.returns
-returns c = count-done _ _ _ c.loop-k.invariant c.loop-k-test.false
+returns c = count-done _ _ _ c.loop-b.invariant c.loop-b-test.false

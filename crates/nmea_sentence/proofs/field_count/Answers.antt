@@ -1,20 +1,12 @@
-use Prim.Native.Nat.{◌≤◌}
-use lib.ListN.{length}
-use mathlib.Core.Path.{refl}
-use native.Mathlib.Omega.{arith}
-use Rattle.nmea_sentence.proofs.FieldLaws.{count-part, count-done}
+use Rattle.nmea_sentence.proofs.FieldLaws.{parted-start, parted-next, parted-done}
 use Rattle.nmea_sentence.proofs.field_count.Goals as goal
-use Rattle.nmea_sentence.proofs.field_count.Goals.{then-s-k-gt255, else-s-k-gt255}
 
--- the count after a part
-pub loop-k-preserved : goal.loop-k-preserved
-loop-k-preserved c =
-    let s = c.args.s.now in
-    let k = c.loop-k.k in
-    let e = c.if-s-k-gt255.end in
-    let h : k ≤ e = elim c.if-s-k-gt255.branch [ then-s-k-gt255 u ↦ omega arith | else-s-k-gt255 u ↦ omega arith ] in
-    let g : e ≤ length s = elim c.if-s-k-gt255.branch [ then-s-k-gt255 u ↦ omega arith | else-s-k-gt255 u ↦ omega arith ] in
-    count-part s _ k e _ c.loop-k.invariant h g c.commas.ensures _ refl
+pub loop-part-init : goal.loop-part-init
+loop-part-init c = rw c.into_iter-part-iterator.ensures.into_iter_gives (parted-start _ c.chunks-part-items.ensures.rest c.chunks-part-items.ensures.size)
+
+pub loop-part-preserved : goal.loop-part-preserved
+loop-part-preserved c = let e = c.in-Some.ensures.steps in
+    parted-next _ _ _ _ c.loop-part.invariant e.1.0 c.commas.ensures e.0
 
 pub returns : goal.returns
-returns c = count-done _ _ _ c.loop-k.invariant c.loop-k-test.false
+returns c = parted-done _ _ c.loop-part.invariant c.in-None.ensures.steps.1.0

@@ -10,4 +10,4 @@ returns c =
     -- the held bytes are as many as their array has
     let held-length : length c.args.r.held ≡ held_length = omega arith in
     rw (c.copy.ensures, c.put.ensures)
-    (encode-copied c.words_of.result c.args.r c.args.bytes.now c.requires held-length c.words_of.ensures)
+    (encode-copied c.from.result c.args.r c.args.bytes.now c.requires held-length c.from.ensures)

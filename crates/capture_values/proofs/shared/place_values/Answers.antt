@@ -1,13 +1,17 @@
-use mathlib.Core.Path.{refl}
+use mathlib.Core.List.{[], ◌∷◌}
+use mathlib.Core.Path.{◌∙◌}
 use native.Mathlib.Omega.{arith}
-use Rattle.capture_values.proofs.RowLaws.{near, unsigned, same_row}
+use Rattle.capture_values.specs.Values.{numbered}
+use Rattle.capture_values.proofs.RowLaws.{near, unsigned}
 use Rattle.capture_values.proofs.shared.place_values.Goals as goal
 
-pub overflow_cast-start : goal.overflow_cast-start
-overflow_cast-start c = record { sfits = omega (arith, (near _ _ c.in-At.is c.locate.ensures).start) }
+pub overflow_cast-place : goal.overflow_cast-place
+overflow_cast-place c = record { sfits = omega (arith, (near _ _ c.in-Ok.ensures).start) }
 
-pub overflow_cast-end : goal.overflow_cast-end
-overflow_cast-end c = record { sfits = omega (arith, (near _ _ c.in-At.is c.locate.ensures).end) }
+pub overflow_cast-place-in-Ok : goal.overflow_cast-place-in-Ok
+overflow_cast-place-in-Ok c = record { sfits = omega (arith, (near _ _ c.in-Ok.ensures).end) }
 
-pub returns-in-At : goal.returns-in-At
-returns-in-At c = let n = near _ _ c.in-At.is c.locate.ensures in rw (← c.locate.ensures, c.in-At.is) (same_row c.row.ensures (unsigned (omega (arith, n.start))) (unsigned (omega (arith, n.end))) refl refl refl refl)
+pub returns-in-Ok : goal.returns-in-Ok
+returns-in-Ok c = let n = near _ _ c.in-Ok.ensures in
+    let p = c.in-Ok.place in
+    rw (← c.in-Ok.ensures) (c.filled.ensures ∙ (λ j. numbered 0 (unsigned {n = p.start} (omega (arith, n.start)) j ∷ unsigned {n = p.end} (omega (arith, n.end)) j ∷ [])))

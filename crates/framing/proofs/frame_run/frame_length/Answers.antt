@@ -1,7 +1,8 @@
-use Rattle.std.proofs.Common.{ap, ◌∙◌}
-use Rattle.framing.specs.declared.frame_run.Run.{Run}
-use Rattle.framing.proofs.FrameRunLaws.{one-length}
+use Rattle.framing.proofs.FrameRunLaws.{one-none, one-some}
 use Rattle.framing.proofs.frame_run.frame_length.Goals as goal
 
+pub returns-then-found-eq0 : goal.returns-then-found-eq0
+returns-then-found-eq0 c = one-none _ _ c.frame_run-found.ensures c.if-found-eq0.true
+
 pub returns : goal.returns
-returns c = ap (λ (r : Run). r.bytes) c.frame_run-found.ensures ∙ one-length _ _
+returns c = one-some _ _ c.frame_run-found.ensures c.if-found-eq0.false

@@ -1,10 +1,7 @@
-use Rattle.std.proofs.Common.{◌-◌, ◌≤◌, take}
-use Rattle.framing.specs.Format.{format_of}
+use Rattle.std.proofs.Common.{take, ◌-◌, ◌≤◌}
 use Rattle.framing.proofs.FrameRunLaws.{Led}
 use Rattle.framing.proofs.frame_run.run_within.Given as goal
 
-abbrev pub invariant-loop-more : goal.invariant-loop-more
-invariant-loop-more l = (l.more ≤ l.most) × Led (format_of l.format) (take l.end l.s) l.most l.at (l.most - l.more)
-
-abbrev pub decreases-loop-more : goal.decreases-loop-more
-decreases-loop-more l = l.end - l.at
+-- as many frames as were counted down
+abbrev pub invariant-loop-left : goal.invariant-loop-left
+invariant-loop-left l = (l.left ≤ l.most) × Led l.format (take l.end l.s) l.most l.at (l.most - l.left)

@@ -6,12 +6,12 @@ pub loop-i-init : goal.loop-i-init
 loop-i-init c = columns-start _ _ _ _
 
 pub loop-i-preserved : goal.loop-i-preserved
-loop-i-preserved c = columns-more c.loop-i.invariant (omega arith) (omega arith) c.min_usize-second.ensures (omega arith)
+loop-i-preserved c = columns-more c.loop-i.invariant (omega arith) (omega arith) c.min-second.ensures (omega arith)
     c.refused_of-refused.ensures c.kept-x.ensures c.kept-y.ensures c.commas_of-commas.ensures
 
 pub returns : goal.returns
 returns c = let w = c.loop-i.invariant in
-    let e = c.min_usize-second.ensures in
+    let e = c.min-second.ensures in
     record {
       body = columns-body w (omega arith) (omega arith) e (omega arith) (omega arith);
       xor = columns-xor w (omega arith) (omega arith) e (omega arith) (omega arith);

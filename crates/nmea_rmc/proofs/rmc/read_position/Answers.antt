@@ -1,19 +1,16 @@
-use mathlib.Core.Path.{◌∙◌}
-use Rattle.framing.specs.Format.{format_of}
 use Rattle.nmea_rmc.specs.Rmc.{rmc_position_of}
-use Rattle.nmea_sentence.proofs.JudgeLaws.{judged-refused, judged-body, judged-tag, judged-done}
+use Rattle.nmea_sentence.proofs.JudgeLaws.{sentence_refused, judged-body, judged-tag, sentence_done}
 use Rattle.nmea_rmc.proofs.rmc.read_position.Goals as goal
 
-pub returns-in-Refused : goal.returns-in-Refused
-unfolding format_of rmc_position_of
-returns-in-Refused c = judged-refused _ _ _ _ _ _ c.judge-judged.ensures _ c.in-Refused.is
+pub returns-in_err-judge : goal.returns-in_err-judge
+unfolding rmc_position_of
+returns-in_err-judge c = sentence_refused _ _ _ _ _ _ _ _ c.from_residual.ensures.1 c.in_err-judge.ensures
 
 pub position_of-requires : goal.position_of-requires
-unfolding format_of rmc_position_of
-position_of-requires c = judged-tag _ _ _ _ c.judge-judged.ensures c.in_default.is c.between.ensures
+unfolding rmc_position_of
+position_of-requires c = judged-tag _ _ _ c.in_ok-judge.ensures c.between.ensures
 
 pub returns : goal.returns
-unfolding format_of rmc_position_of
-returns c = let j = c.judge-judged.ensures in
-    let d = c.in_default.is in
-    (rw (c.between.ensures, judged-body _ _ _ _ j d) at c.position_of.ensures) ∙ judged-done _ _ _ _ _ _ j d
+unfolding rmc_position_of
+returns c = let j = c.in_ok-judge.ensures in
+    sentence_done _ _ _ _ _ j (rw (c.between.ensures, judged-body _ _ _ j) at c.position_of.ensures)

@@ -11,11 +11,11 @@ pub returns-then-s-ne1 : goal.returns-then-s-ne1
 unfolding field_status
 returns-then-s-ne1 c = rw (ne_eqb _ _ c.if-s-ne1.true)
 
-pub returns-then-b-letter_of : goal.returns-then-b-letter_of
+pub returns-then-b-from : goal.returns-then-b-from
 unfolding field_status
-returns-then-b-letter_of c = let b = get_or c.args.s.now 0 0 in
-    let l = c.letter_of.ensures in
-    let n = c.if-b-letter_of.true in
+returns-then-b-from c = let b = get_or c.args.s.now 0 0 in
+    let l = c.from.ensures in
+    let n = c.if-b-from.true in
     let one = eq-eqb _ _ c.if-s-ne1.false in
     elim c.if-b-lt86.branch [
       | then-b-lt86 w ↦ let t = w.if-b-lt86.true in rw (one, ne_eqb b 0x41 (λ e. n (e ∙ sym (l ∙ ap letter w.status-is))), ne_eqb b 0x56 (λ e. omega arith))
@@ -24,5 +24,5 @@ returns-then-b-letter_of c = let b = get_or c.args.s.now 0 0 in
 
 pub returns : goal.returns
 unfolding field_status
-returns c = let e = c.if-b-letter_of.false ∙ c.letter_of.ensures in
+returns c = let e = c.if-b-from.false ∙ c.from.ensures in
     rw (eq-eqb _ _ c.if-s-ne1.false, e, is-letter c.if-b-lt86.status)

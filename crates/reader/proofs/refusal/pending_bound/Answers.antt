@@ -1,9 +1,9 @@
-use native.Mathlib.Omega.{arith}
+use Rattle.std.proofs.Common.{sym, ◌∙◌}
 use Rattle.reader.proofs.RefusalLaws.{bound-is}
 use Rattle.reader.proofs.refusal.pending_bound.Goals as goal
 
-pub returns-then-l-eq0 : goal.returns-then-l-eq0
-returns-then-l-eq0 c = omega (arith, bound-is _ c.layout_of-l.ensures, c.if-l-eq0.true)
+pub returns-in-Some : goal.returns-in-Some
+returns-in-Some c = c.saturating_sub.ensures ∙ bound-is _ _ (sym c.layout_of.ensures ∙ c.in-Some.is)
 
-pub returns : goal.returns
-returns c = bound-is _ c.layout_of-l.ensures
+pub returns-in-None : goal.returns-in-None
+returns-in-None c = bound-is _ _ (sym c.layout_of.ensures ∙ c.in-None.is)

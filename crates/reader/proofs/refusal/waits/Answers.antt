@@ -5,4 +5,4 @@ use Rattle.reader.proofs.ReadLineLaws.{one-waits}
 use Rattle.reader.proofs.refusal.waits.Goals as goal
 
 pub returns : goal.returns
-returns c = λ h. ap (λ (r : Run). r.waits) c.frame_run_within-run.ensures ∙ one-waits _ _ ∙ front-start _ _
+returns c = λ h. ap (λ (r : Run). r.waits) c.frame_run_within.ensures ∙ one-waits _ _ ∙ front-start _ _

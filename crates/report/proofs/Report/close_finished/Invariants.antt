@@ -1,11 +1,7 @@
 use Rattle.report.specs.Step.{close_finished}
 use Rattle.benchfile.specs.Toc.{entries}
-use Prim.Native.Nat.{◌-◌}
 use mathlib.Core.Path.{◌≡◌}
 use Rattle.report.proofs.Report.close_finished.Given as goal
 
-abbrev pub invariant-loop-r : goal.invariant-loop-r
-invariant-loop-r l = (close_finished l.r ≡ close_finished l.initial.r) × (l.n ≡ entries l.r.toc)
-
-abbrev pub decreases-loop-r : goal.decreases-loop-r
-decreases-loop-r l = l.n - l.r.entry
+abbrev pub invariant-loop-i : goal.invariant-loop-i
+invariant-loop-i l = (close_finished l.self ≡ close_finished l.initial.self) × ((l.i ≡ l.self.entry) × (l.n ≡ entries l.self.toc))

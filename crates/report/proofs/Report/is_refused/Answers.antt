@@ -1,11 +1,10 @@
 use Rattle.report.specs.Step.{is_refused}
-use borrow.Author.Tests.{ne_eqb}
 use Rattle.report.proofs.Report.is_refused.Goals as goal
 
-pub returns-then-self-eq0 : goal.returns-then-self-eq0
+pub returns-then-is_none : goal.returns-then-is_none
 unfolding is_refused
-returns-then-self-eq0 c = rw c.if-self-eq0.true
+returns-then-is_none c = rw (rw c.if-is_none.true at c.is_none.ensures)
 
 pub returns : goal.returns
 unfolding is_refused
-returns c = rw (ne_eqb _ 0 c.if-self-eq0.false)
+returns c = rw (rw c.if-is_none.false at c.is_none.ensures)

@@ -5,10 +5,10 @@ use Rattle.report.proofs.Report.keep_sheet.Goals as goal
 
 pub returns-then-i-lt-MOST_ENTRIES : goal.returns-then-i-lt-MOST_ENTRIES
 unfolding keep_sheet
-returns-then-i-lt-MOST_ENTRIES c = rw c.final_sheet-sheet.ensures
+returns-then-i-lt-MOST_ENTRIES c = rw (c.from-i.ensures, c.final_sheet.ensures)
 
 pub returns-else-i-lt-MOST_ENTRIES : goal.returns-else-i-lt-MOST_ENTRIES
 unfolding keep_sheet
 returns-else-i-lt-MOST_ENTRIES c =
-    let a = c.args.self in
-    rw (set_out a.sheets a.entry (final_sheet a.tally) (omega arith))
+    let a = c.args.self.now in
+    rw (set_out a.sheets a.entry (final_sheet a.tally) (omega (arith, c.from-i.ensures)))

@@ -4,4 +4,4 @@ use Rattle.report.proofs.Report.open_entry.Goals as goal
 
 pub returns : goal.returns
 unfolding open_entry entry_at
-returns c = rw (c.fresh-self.ensures, c.left_at.ensures, c.entry_at-entry.ensures)
+returns c = rw (c.fresh-self.ensures, c.left_at-self.ensures, c.from.ensures, c.entry_at-entry.ensures)

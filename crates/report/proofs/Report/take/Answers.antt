@@ -1,42 +1,29 @@
 use Rattle.report.specs.Step.{overrun}
-use lib.ListN.{drop_of_length-le}
-use Prim.Native.Nat.{ℕ, ◌+◌, ◌-◌, min}
-use mathlib.Core.Path.{◌≡◌, sym, ap, ◌∙◌}
-use Rattle.report.proofs.StepLaws.{take-byte, take-over, take-piece, taken_none}
-use native.Mathlib.Omega.{arith}
-use borrow.Author.Rules.{rules}
+use mathlib.Core.Path.{sym, ap, ◌∙◌}
+use Rattle.report.proofs.StepLaws.{taken_empty, take-byte, take-over, take-piece}
+use Prim.Native.Nat.{ℕ, min}
 use Rattle.reader.specs.Refusal.{longest_piece}
 use Rattle.report.proofs.Report.take.Goals as goal
 
-pub loop-at-preserved-then-r-eq0 : goal.loop-at-preserved-then-r-eq0
+pub loop-first-preserved-then-is_none : goal.loop-first-preserved-then-is_none
 unfolding overrun
-loop-at-preserved-then-r-eq0 c = (
-  search rules,
-  let l = c.loop-at in
-      let s = c.args.bytes.now in
-      take-byte l.r s l.at c.loop-at-test.true _ c.if-r-eq0.true c.take_toc-r.ensures ∙ l.invariant.1,
-)
+loop-first-preserved-then-is_none c =
+    take-byte c.loop-first.self _ c.loop-first.rest.now _ c.in-Some.ensures.cases.0 (rw c.if-is_none.true at c.is_none.ensures) c.take_toc.ensures ∙ c.loop-first.invariant
 
-pub returns-then-r-eq0-2 : goal.returns-then-r-eq0-2
+pub returns-then-self-eq0 : goal.returns-then-self-eq0
 unfolding overrun
-returns-then-r-eq0-2 c = let l = c.loop-at in
-    let s = c.args.bytes.now in
-    take-over l.r s l.at c.loop-at-test.true c.if-r-eq0.false c.if-r-eq0-2.true ∙ l.invariant.1
+returns-then-self-eq0 c =
+    take-over c.loop-first.self _ c.loop-first.rest.now _ c.in-Some.ensures.cases.0 (rw c.if-is_none.false at c.is_none.ensures) c.if-self-eq0.true ∙ c.loop-first.invariant
 
-pub loop-at-preserved : goal.loop-at-preserved
+pub loop-first-preserved : goal.loop-first-preserved
 unfolding overrun
-loop-at-preserved c = (
-  search rules,
-  let l = c.loop-at in
-      let s = c.args.bytes.now in
-      let n = c.min_usize-n.result in
-      let m : l.at + n - l.at ≡ n = omega arith in
-      let k = c.min_usize-n.ensures ∙ ap (λ (n : ℕ). min n longest_piece) c.min_usize.ensures in
-      take-piece l.r s l.at c.loop-at-test.true _ _ n c.if-r-eq0.false c.if-r-eq0-2.false k (rw m at c.take_piece.ensures) c.close_finished-r.ensures ∙ l.invariant.1,
-)
+loop-first-preserved c =
+    let l = c.loop-first in
+    let s = c.split_at.ensures in
+    let n = c.min-n.ensures ∙ ap (λ (n : ℕ). min n longest_piece) c.min.ensures in
+    let p = rw s.front at c.take_piece.ensures in
+    rw s.back (take-piece l.self _ l.rest.now _ c.in-Some.ensures.cases.0 _ (rw c.if-is_none.false at c.is_none.ensures) c.if-self-eq0.false n p c.close_finished.ensures ∙ l.invariant)
 
 pub returns : goal.returns
 unfolding overrun
-returns c = let l = c.loop-at in
-    let s = c.args.bytes.now in
-    sym (taken_none l.r) ∙ rw (drop_of_length-le s c.loop-at-test.false) at l.invariant.1
+returns c = sym (taken_empty c.loop-first.self c.loop-first.rest.now c.in_default.ensures.cases) ∙ c.loop-first.invariant

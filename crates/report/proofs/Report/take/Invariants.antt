@@ -1,11 +1,10 @@
 use Rattle.report.specs.Step.{take_bytes}
-use lib.ListN.{length, drop}
-use Prim.Native.Nat.{◌≤◌, ◌-◌}
+use lib.ListN.{length}
 use mathlib.Core.Path.{◌≡◌}
 use Rattle.report.proofs.Report.take.Given as goal
 
-abbrev pub invariant-loop-at : goal.invariant-loop-at
-invariant-loop-at l = (l.at ≤ length l.bytes) × (take_bytes l.r (drop l.at l.bytes) ≡ take_bytes l.initial.r l.bytes)
+abbrev pub invariant-loop-first : goal.invariant-loop-first
+invariant-loop-first l = take_bytes l.self l.rest ≡ take_bytes l.initial.self l.initial.rest
 
-abbrev pub decreases-loop-at : goal.decreases-loop-at
-decreases-loop-at l = length l.bytes - l.at
+abbrev pub decreases-loop-first : goal.decreases-loop-first
+decreases-loop-first l = length l.rest

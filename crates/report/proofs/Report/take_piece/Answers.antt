@@ -3,4 +3,4 @@ use Rattle.report.proofs.Report.take_piece.Goals as goal
 
 pub returns : goal.returns
 unfolding take_piece
-returns c = rw c.add_piece-self.ensures
+returns c = rw c.add_piece.ensures

@@ -2,10 +2,10 @@ use Rattle.report.specs.Step.{take_toc, keep_byte}
 use borrow.Author.Tests.{le-ltb, lt-ltb}
 use Rattle.report.proofs.Report.take_toc.Goals as goal
 
-pub returns-then-at-ge-LONGEST_TOC : goal.returns-then-at-ge-LONGEST_TOC
+pub returns-then-self-lt-LONGEST_TOC : goal.returns-then-self-lt-LONGEST_TOC
 unfolding take_toc keep_byte
-returns-then-at-ge-LONGEST_TOC c = rw (le-ltb _ _ c.if-at-ge-LONGEST_TOC.true)
+returns-then-self-lt-LONGEST_TOC c = rw (lt-ltb _ _ c.if-self-lt-LONGEST_TOC.true) c.open_first.ensures
 
-pub returns : goal.returns
+pub returns-else-self-lt-LONGEST_TOC : goal.returns-else-self-lt-LONGEST_TOC
 unfolding take_toc keep_byte
-returns c = rw (lt-ltb _ _ c.if-at-ge-LONGEST_TOC.false) c.open_first.ensures
+returns-else-self-lt-LONGEST_TOC c = rw (le-ltb _ _ c.if-self-lt-LONGEST_TOC.false)
