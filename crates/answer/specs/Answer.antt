@@ -1,5 +1,6 @@
 -- What a call answers: document 01's number, and a value (docs/FORMATS.md, "Refusal numbers").
-use Rattle.std.specs.Prelude.{ℕ, Bool, true, false, Result, Ok, Err}
+use Rattle.std.specs.Prelude.{ℕ, Bool, true, false, Result, Ok, Err, List, ◌++◌, codes}
+use Rattle.std.specs.Fmt.{decimal}
 use Rattle.answer.specs.declared.Refusal.{Refusal}
 use Rattle.answer.specs.declared.Refusal.TheVariants.{PieceTooLong, Closed, LineTooLong, PieceOutputTooSmall, NotWritable, OutputTooSmall, NotOneFrame, OtherMessage, OutOfForm, BrokenToc, BrokenReader}
 
@@ -17,6 +18,10 @@ refusal_number OtherMessage = 8
 refusal_number OutOfForm = 9
 refusal_number BrokenToc = 10
 refusal_number BrokenReader = 11
+
+-- what a refusal displays: the word, a space and the number in decimal digits
+abbrev pub refusal_text : Refusal → List ℕ
+refusal_text r = codes "refused " ++ decimal (refusal_number r)
 
 -- the number, 0 for done; beside a refusal the value is all zeros
 pub record Answer (A : Type 0) : Type 0 where

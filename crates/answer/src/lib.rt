@@ -1,8 +1,8 @@
 // Document 01's refusals, and the number of each.
 #![tactic(auto)]
 
-ghost use Rattle.std.specs.Prelude.{◌≡◌};
-ghost use Rattle.answer.specs.Answer.{refusal_number};
+ghost use Rattle.std.specs.Prelude.{Some, ◌≡◌};
+ghost use Rattle.answer.specs.Answer.{refusal_number, refusal_text};
 
 use std::error::Error;
 use std::fmt;
@@ -55,7 +55,10 @@ impl From<Refusal> for u32 {
     }
 }
 
+// The text is `refused`, a space and document 01's number.
 impl fmt::Display for Refusal {
+    ghost output = { λ r. Some (refusal_text r) };
+
     fn fmt<W: fmt::Write>(&self, f: &mut fmt::Formatter<W>) -> fmt::Result {
         write!(f, "refused {}", u32::from(*self))
     }

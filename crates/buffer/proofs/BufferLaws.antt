@@ -50,7 +50,7 @@ module _ (bs out : List ℕ) (at : ℕ) (h : at + length bs ≤ length out) wher
   length_front : length (take at out ++ bs) ≡ at + length bs
   length_front = rw (length-append (take at out) bs, length-take-le at out (omega arith))
 
-  take-copied : take (at + length bs) (copied bs out at) ≡ take at out ++ bs
+  pub take-copied : take (at + length bs) (copied bs out at) ≡ take at out ++ bs
   take-copied = rw copied-as (take_at (take at out ++ bs) (drop (at + length bs) out) (at + length bs) length_front)
 
   drop-copied : drop (at + length bs) (copied bs out at) ≡ drop (at + length bs) out

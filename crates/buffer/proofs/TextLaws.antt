@@ -2,18 +2,20 @@
 -- Assumes nothing.
 use Rattle.std.proofs.Common.{◌≡◌, ℕ, ◌+◌, ◌-◌, ◌≤◌, min, List, [], ◌++◌, length, take, sym, ap, ◌∙◌, append_assoc, arith, take_all}
 use native.Mathlib.Decide.{dec_le}
-use borrow.Rule.Slice.PartMut.{put_mid}
 use Rattle.std.proofs.Math.Seq.{take-append-add}
 use Rattle.std.proofs.lemmas.List.{take-append-le, length-take-le}
-use Rattle.std.proofs.lemmas.Slice.{take-put_mid}
+use Rattle.buffer.specs.Buffer.{copied}
+use Rattle.buffer.proofs.BufferLaws.{take-copied}
 
 -- bs are pushed behind the first `len` bytes of a store of n, as many as there is room for
 pub pushed : (n len m : ℕ) (store bs ys : List ℕ) → len ≤ n → length store ≡ n → m ≡ min (length bs) (n - len) → ys ≡ take m bs
-    → take (len + m) (put_mid len (len + m - len) store ys) ≡ take n (take len store ++ bs)
+    → take (len + m) (copied ys store len) ≡ take n (take len store ++ bs)
 pushed n len m store bs ys h l e q =
     let r : m ≤ length bs = omega arith in
     let k : n ≡ length (take len store) + (n - len) = omega (arith, length-take-le len store (omega arith)) in
-    take-put_mid len (len + m - len) store ys (len + m) (omega (arith, ap length q, length-take-le m bs r)) (omega arith)
+    let y : length ys ≡ m = omega (arith, ap length q, length-take-le m bs r) in
+    ap (λ (i : ℕ). take (len + i) (copied ys store len)) (sym y)
+    ∙ take-copied ys store len (omega arith)
     ∙ ap (λ (t : List ℕ). take len store ++ t) (q ∙ whole (dec_le (length bs) (n - len)))
     ∙ sym (ap (λ (i : ℕ). take i (take len store ++ bs)) k ∙ take-append-add (take len store) bs (n - len))
   where

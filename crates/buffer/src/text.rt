@@ -35,8 +35,7 @@ impl<const N: usize> Text<N> {
     {
         let n = bytes.len().min(N - self.len);
         let end = self.len + n;
-        let all = &mut self.bytes[..];
-        all[self.len..end].copy_from_slice(&bytes[..n]);
+        crate::copy(&bytes[..n], &mut self.bytes, self.len);
         self.len = end;
     }
 

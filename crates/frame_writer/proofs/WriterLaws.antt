@@ -9,7 +9,9 @@ use native.Mathlib.Omega.{arith}
 use lib.Dec.{leb, eqb, T, leb→le}
 use Rattle.std.specs.Prelude.{◌↔◌}
 use lib.Ieee.Fits.{and_l, and_r}
-use lib.ListN.{length, take, drop, get_or, length-append, length-drop}
+use native.Mathlib.Numerals.{add-one}
+use lib.ListN.{length, take, drop, get_or, length-append, length-drop, drop_of_length-le}
+use Rattle.std.proofs.Common.{drop-cons}
 use lib.Seq.{take_at, drop-append-le}
 use borrow.Author.Tests.{le-leb, lt-leb}
 use Rattle.numbers.specs.Low.{low_bytes}
@@ -37,6 +39,18 @@ permitted-every : (s : List ℕ) → ((k : ℕ) → k < length s → permitted (
 unfolding all_permitted
 permitted-every [] h = refl
 permitted-every (b ∷ s) h = (and-eq-true_iff (permitted b) (all_permitted s)).1 (h 0 (omega arith), permitted-every s (λ k l. h (suc k) (omega arith)))
+
+-- a byte tested, from place i on
+pub permitted-more : (a : Bool) (s : List ℕ) (i : ℕ) → i < length s
+    → (a && permitted (get_or s i 0)) && all_permitted (drop (i + 1) s) ≡ a && all_permitted (drop i s)
+unfolding all_permitted
+permitted-more true s i h = rw (add-one, drop-cons s i 0)
+permitted-more false s i h = refl
+
+pub permitted-end : (a : Bool) (s : List ℕ) (i : ℕ) → length s ≤ i → a && all_permitted (drop i s) ≡ a
+unfolding all_permitted
+permitted-end true s i h = rw (drop_of_length-le s h)
+permitted-end false s i h = refl
 
 -- r says whether every byte is permitted
 pub permitted_iff : (s : List ℕ) {r : Bool} → (r ≡ true) ↔ ((k : ℕ) → k < length s → permitted (get_or s k 0) ≡ true) → r ≡ all_permitted s

@@ -19,11 +19,15 @@ fn takes_mgl(body: &[u8]) -> bool
     12 <= body.len() && body.len() <= 264 && body.len() % 4 == 0
 }
 
-// Whether every byte may stand in the body of a sentence.
+// Whether every byte may stand in the body of a sentence. All are tested: with a way out the compiler would not test 16 at once.
 fn all_permitted(body: &[u8]) -> bool
     ensures { result ≡ all_permitted body.now }
 {
-    body.iter().all(|b| framing::nmea::is_permitted(*b))
+    let mut all = true;
+    for &b in body {
+        all = all & framing::nmea::is_permitted(b);
+    }
+    all
 }
 
 // Whether the body of a sentence is taken.

@@ -103,11 +103,12 @@ pub fn parse_digits(s: &[u8]) -> Option<u64>
     Some(n)
 }
 
-// Whether the first field of a body is this tag.
+// Whether the first field of a body is this tag. At most one byte more than the tag has is read.
 fn has_tag(body: &[u8], tag: &[u8]) -> bool
     ensures { result ≡ has_tag tag.now body.now }
 {
-    field(body, 0) == tag
+    let near = body.len().min(tag.len() + 1);
+    field(&body[..near], 0) == tag
 }
 
 // The fields of a sentence, by the rules of a frame.

@@ -1,12 +1,12 @@
 -- Parts of a slice as the code takes them, and bytes copied to be held or joined. Assumes nothing.
-use Prim.Native.Nat.{ℕ, ◌+◌, ◌-◌, ◌≤◌}
+use Prim.Native.Nat.{ℕ, ◌+◌, ◌-◌, ◌≤◌, ◌<◌}
 use mathlib.Core.Path.{◌≡◌, sym, ap, ◌∙◌}
 use mathlib.Core.List.{List, [], ◌++◌, append-nil}
 use native.Mathlib.Nat.{add-sub_cancel_left}
 use native.Mathlib.Omega.{arith}
 use Rattle.std.proofs.lemmas.List.{take_rest, drop-take}
-use lib.ListN.{length, take, drop, replicate, take-append-drop, length-append, length-drop, drop_of_length-le}
-use lib.Seq.{take_at, drop_at, length-take-le, paste, length_paste_head}
+use lib.ListN.{length, take, drop, replicate, get_or, take-append-drop, length-append, length-drop, drop_of_length-le}
+use lib.Seq.{take_at, drop_at, length-take-le, get_or-drop, get_or-append-add, paste, length_paste_head}
 use Rattle.buffer.specs.Buffer.{put, copied}
 use Rattle.buffer.proofs.BufferLaws.{start-copied, put-copied, put-behind}
 use Rattle.reader.specs.State.{held_length, held_bytes}
@@ -37,6 +37,17 @@ appended held b p h =
     ap (λ (x : List ℕ). take (p + length b) (copied b x p)) (sym e) ∙ joins held (take p held) b p l h
 
 -- ---- bytes that are moved to the start
+
+-- what is read is not written yet
+pub read-ahead : (h : List ℕ) (from j : ℕ) → from + j < length h → get_or (paste h 0 (drop from h) j) (from + j) 0 ≡ get_or (drop from h) j 0
+read-ahead h from j l =
+    let xs = take 0 h ++ take j (drop from h) in
+    let e : from + j ≡ length xs + from = omega (arith, length_paste_head h 0 (drop from h) j (omega arith) (omega (arith, length-drop from h))) in
+    ap (λ (k : ℕ). get_or (paste h 0 (drop from h) j) k 0) e
+    ∙ get_or-append-add xs (drop (0 + j) h) from 0
+    ∙ get_or-drop (0 + j) h from 0
+    ∙ ap (λ (k : ℕ). get_or h k 0) (omega arith)
+    ∙ sym (get_or-drop from h j 0)
 
 pub shifted : (h : List ℕ) (from n : ℕ) → from + n ≤ length h → take n (paste h 0 (drop from h) n) ≡ take n (drop from h)
 shifted h from n l =

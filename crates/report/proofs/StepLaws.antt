@@ -8,7 +8,7 @@ use mathlib.Core.Path.{◌≡◌, refl, sym, ap, ◌∙◌}
 use mathlib.Core.Bool.{Bool, true, false, cond}
 use mathlib.Core.List.{List, [], ◌∷◌}
 use lib.Dec.{eqb}
-use Rattle.std.specs.Prelude.{is_ok, is_some}
+use Rattle.std.specs.Prelude.{is_some}
 use lib.ListN.{length, take, drop, length-drop, length-replicate}
 use Rattle.reader.specs.Refusal.{refusal}
 use Rattle.reader.specs.Calls.{Call, a_piece, a_close, closes, bytes_of, out_of, gain, taken as accepted, refused_call, serve}
@@ -35,7 +35,7 @@ called-out : (t u : Tally) (c d : Call) (last : List ℕ) → closes c ≡ close
 unfolding tally_step serve
 called-out t u c d last k b h e =
     let n = refusal t.reader (length (bytes_of d)) (length (out_of d)) in
-    ap (λ (s : Stepped). s.tally) e ∙ rw (k, b, h) (any_out t (closes d) (is_ok t.answer) (eqb n 0) (gain t.reader d) n (out_of c) (out_of d))
+    ap (λ (s : Stepped). s.tally) e ∙ rw (k, b, h) (any_out t (closes d) (eqb t.answer 0) (eqb n 0) (gain t.reader d) n (out_of c) (out_of d))
 
 pub empty-length : length empty_output ≡ max_output
 empty-length = length-replicate {A = ℕ} max_output 0

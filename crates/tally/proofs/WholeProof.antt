@@ -1,6 +1,6 @@
 -- A capture read to its end, by induction on its pieces: the tally is all along that of the plain machine, which refuses none of them.
 -- Assumes nothing.
-use Rattle.std.proofs.Common.{◌≡◌, ℕ, Ok, ◌+◌, ◌%◌, ◌^◌, ◌≤◌, true, false, T, List, [], ◌∷◌, ◌++◌, length, refl, append_assoc, append-nil, mod-eq_of_lt, arith, length-append, le-ltb}
+use Rattle.std.proofs.Common.{◌≡◌, ℕ, ◌+◌, ◌%◌, ◌^◌, ◌≤◌, true, false, T, List, [], ◌∷◌, ◌++◌, length, refl, append_assoc, append-nil, mod-eq_of_lt, arith, length-append, le-ltb}
 use Rattle.framing.specs.declared.Format.{Format}
 use Rattle.framing.specs.Format.{known, format_of}
 use Rattle.framing.specs.Reading.{ongoing, closing, read, frame_count, pending_count}
@@ -14,12 +14,12 @@ use Rattle.reader_theorems.specs.Chunking.{delivery}
 use Rattle.reader_theorems.proofs.Chunking.{delivering}
 use Rattle.reader_theorems.proofs.View.{reading_at, view, WithinLimit, view-sum, view-fresh, one-call}
 use Rattle.tally.specs.declared.Tally.{Tally}
-use Rattle.tally.specs.Step.{result_of, max_output, fresh_tally, tally_step, sheet_of}
+use Rattle.tally.specs.Step.{max_output, fresh_tally, tally_step, sheet_of}
 use Rattle.tally.specs.Whole.{tallied, closing_sheet, Feeding, WholeCapture}
 
 -- the tally as read off the machine: nothing was refused, and the frames are those of its reading
 abbrev pub tally_of : ℕ → Machine → Tally
-tally_of n m = record { answer = Ok tt; frames = frame_count (reading_at n m); reader = view n m }
+tally_of n m = record { answer = 0; frames = frame_count (reading_at n m); reader = view n m }
 
 -- ---- one call
 
@@ -46,7 +46,7 @@ frames-fit : (n : ℕ) (m : Machine) → WithinLimit m → frame_count (reading_
 frames-fit n m h = mod-eq_of_lt (omega (arith, frames-most (mode_of m.closed) (format_of n) m.delivered, view-sum n m))
 
 fed-step : (n : ℕ) (m : Machine) (c : Call) → T (known (format_of n)) → Fed m c → (tally_step (tally_of n m) c).tally ≡ tally_of n (accepted m c)
-unfolding tally_step result_of
+unfolding tally_step
 fed-step n m c k h =
     let w : WithinLimit m = omega (arith, h.fits) in
     let s = one-call n m c k w in
@@ -68,7 +68,7 @@ all-pieces n d (a_close out ∷ cs) k p h = absurd p
 
 -- the tally of no bytes is the fresh one
 pub fresh-is : (n : ℕ) → T (known (format_of n)) → fresh_tally n ≡ tally_of n start
-unfolding fresh_tally result_of
+unfolding fresh_tally
 fresh-is n k = rw (view-fresh n k, read-nil ongoing (format_of n))
 
 -- a machine whose close was accepted

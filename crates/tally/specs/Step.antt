@@ -1,7 +1,5 @@
 -- A capture read call by call, for its sheet: the first refusal, the frames so far, and the reader (docs/FORMATS.md, "Sheets").
-use Rattle.std.specs.Prelude.{ℕ, ◌+◌, ◌%◌, ◌^◌, cond, List, Result, Ok, Err, eqb, is_ok}
-use Rattle.answer.specs.declared.Refusal.{Refusal}
-use Rattle.answer.specs.declared.Refusal.TheVariants.{PieceTooLong, Closed, LineTooLong, PieceOutputTooSmall, NotWritable, OutputTooSmall, NotOneFrame, OtherMessage, OutOfForm, BrokenToc, BrokenReader}
+use Rattle.std.specs.Prelude.{ℕ, ◌+◌, ◌%◌, ◌^◌, cond, List, ◌==◌}
 use Rattle.reader.specs.State.{held_length, fresh_of}
 use Rattle.reader.specs.Refusal.{longest_piece}
 use Rattle.reader.specs.Calls.{Call, out_of, Outcome, Returned, serve}
@@ -12,24 +10,9 @@ use Rattle.tally.specs.declared.Tally.{Tally}
 abbrev pub max_output : ℕ
 max_output = held_length + longest_piece
 
--- what has this number: 0 is done, and every other number a refusal (`result-numbered`, proofs/StepLaws.antt)
-unfoldable pub result_of : ℕ → Result (Unit {0}) Refusal
-result_of n =
-    cond (eqb n 0) (Ok tt)
-    (cond (eqb n 1) (Err PieceTooLong)
-    (cond (eqb n 2) (Err Closed)
-    (cond (eqb n 3) (Err LineTooLong)
-    (cond (eqb n 4) (Err PieceOutputTooSmall)
-    (cond (eqb n 5) (Err NotWritable)
-    (cond (eqb n 6) (Err OutputTooSmall)
-    (cond (eqb n 7) (Err NotOneFrame)
-    (cond (eqb n 8) (Err OtherMessage)
-    (cond (eqb n 9) (Err OutOfForm)
-    (cond (eqb n 10) (Err BrokenToc) (Err BrokenReader)))))))))))
-
 -- a fresh reader, and no frames
 unfoldable pub fresh_tally : ℕ → Tally
-fresh_tally n = record { answer = result_of (fresh_of n).answer; frames = 0; reader = (fresh_of n).reader }
+fresh_tally n = record { answer = (fresh_of n).answer; frames = 0; reader = (fresh_of n).reader }
 
 -- A tally as a call returns it, and the output.
 pub record Stepped : Type 0 where
@@ -41,14 +24,14 @@ stepped t out = record { tally = t; out = out }
 
 -- what the reader answered is taken over, and its frames are counted, within 32 bits
 abbrev pub after_outcome : Tally → Outcome → Tally
-after_outcome t o = record { answer = result_of o.answer; frames = (t.frames + o.frames) % 2 ^ 32; reader = o.reader }
+after_outcome t o = record { answer = o.answer; frames = (t.frames + o.frames) % 2 ^ 32; reader = o.reader }
 
 abbrev pub after_return : Tally → Returned → Stepped
 after_return t g = stepped (after_outcome t g.outcome) g.out
 
--- One call. After a refusal nothing is read any more: it stays.
+-- One call. After a refusal nothing is read any more: its number stays.
 unfoldable pub tally_step : Tally → Call → Stepped
-tally_step t c = cond (is_ok t.answer) (after_return t (serve t.reader c)) (stepped t (out_of c))
+tally_step t c = cond (t.answer == 0) (after_return t (serve t.reader c)) (stepped t (out_of c))
 
 -- the sheet's five numbers
 unfoldable pub sheet_of : Tally → Sheet

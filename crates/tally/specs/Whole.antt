@@ -1,6 +1,5 @@
 -- A capture read to its end: its sheet is that of document 01's closing reading of all its bytes, however they were divided.
 use Rattle.std.specs.Prelude.{◌≡◌, ℕ, ◌≤◌, T, List, [], ◌∷◌, length}
-use Rattle.answer.specs.Answer.{outcome_number}
 use Rattle.framing.specs.Format.{known, format_of}
 use Rattle.framing.specs.Reading.{closing, Reading, read, frame_count, framed_count, skipped_count}
 use Rattle.reader.specs.Calls.{Call, a_piece, a_close}
@@ -27,7 +26,7 @@ Feeding (a_close out ∷ cs) = ⊥
 
 -- What holds of a capture's tally t, fed and closed.
 pub record Complete (n : ℕ) (bytes : List ℕ) (t : Tally) : Type 0 where
-  pub accepted : outcome_number t.answer ≡ 0
+  pub accepted : t.answer ≡ 0
   pub sheet : sheet_of t ≡ closing_sheet n (read closing (format_of n) bytes)
 
 -- For every capture of a known format, of at most as many bytes as a reader counts, and every division of it into pieces.

@@ -2,6 +2,7 @@
 #![tactic(auto)]
 
 ghost use Rattle.std.specs.Prelude.{◌≡◌};
+ghost use Rattle.answer.specs.Answer.{outcome_number};
 ghost use Rattle.reader.specs.Calls.{a_piece, a_close, outcome_of};
 ghost use Rattle.tally.specs.Step.{fresh_tally, stepped, after_outcome, tally_step, sheet_of};
 
@@ -9,12 +10,23 @@ use answer::Refusal;
 use benchfile::sheet::Sheet;
 use reader::Reader;
 
-// The first refusal, if there was one, the frames so far, and the reader.
+// The first refusal or 0, the frames so far, and the reader.
 #[derive(Clone, Copy, Debug, PartialEq, Eq)]
 pub struct Tally {
-    pub answer: Result<(), Refusal>,
+    // Kept: a number: the functions take every number, and after any but 0 the tally stays as it was (`tally_step`).
+    pub answer: u32,
     pub frames: u32,
     pub reader: Reader,
+}
+
+// The number of what the reader answered.
+fn number_of<T: Copy>(answer: Result<T, Refusal>) -> u32
+    ensures { result ≡ outcome_number answer }
+{
+    match answer {
+        Ok(_) => 0,
+        Err(refusal) => u32::from(refusal),
+    }
 }
 
 impl Tally {
@@ -28,7 +40,7 @@ impl Tally {
     {
         let opening = Reader::fresh(format);
         Tally {
-            answer: opening.answer,
+            answer: number_of(opening.answer),
             frames: 0,
             reader: opening.reader,
         }
@@ -39,30 +51,25 @@ impl Tally {
         ensures { self.new ≡ after_outcome self.old (outcome_of call self.old.reader) }
     {
         self.frames = self.frames.wrapping_add(call.unwrap_or(0));
-        // Kept: a match; with `call.map(|_| ())` the answers did not close.
-        match call {
-            Ok(_) => self.answer = Ok(()),
-            Err(refusal) => self.answer = Err(refusal),
-        }
+        self.answer = number_of(call);
     }
 
     // Reads a piece. After a refusal nothing is read any more.
     pub fn piece(&mut self, bytes: &[u8], out: &mut [u8])
         ensures { stepped self.new out.new ≡ tally_step self.old (a_piece bytes.now out.old) }
     {
-        let refused = self.answer.is_err();
-        if !refused {
-            let call = self.reader.piece(bytes, out);
-            self.count(call);
+        if self.answer != 0 {
+            return;
         }
+        let call = self.reader.piece(bytes, out);
+        self.count(call);
     }
 
     // Ends the capture. After a refusal nothing is closed.
     pub fn close(&mut self, out: &mut [u8])
         ensures { stepped self.new out.new ≡ tally_step self.old (a_close out.old) }
     {
-        let open = self.answer.is_ok();
-        if open {
+        if self.answer == 0 {
             let call = self.reader.close(out);
             self.count(call);
         }
